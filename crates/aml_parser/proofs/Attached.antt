@@ -12,11 +12,6 @@ use Rattle.aml_tree.specs.Limits.{Mark, marks}
 use Rattle.aml_parser.specs.Items.{attached, all_attached, allowed, compares, Links}
 use Rattle.aml_parser.proofs.Written.{links, link_marks, AreLinks}
 
--- which way a test went
-by_test : (b : Bool) → (b ≡ true) ⊎ (b ≡ false)
-by_test true = inl refl
-by_test false = inr refl
-
 pub is_less : (a b : ℕ) → nat_lt a b ≡ true → a < b
 is_less a b e = search (rules, tests)
 

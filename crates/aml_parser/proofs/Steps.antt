@@ -11,6 +11,7 @@ use Rattle.aml_tree.specs.Tree.{Code, Onto}
 use Rattle.aml_parser.specs.Items.{Item, Block, Value, Values, Production, mark, counted, front, back, joined_values, expand}
 use Rattle.aml_parser.proofs.ReadLaws.{fine, gathered}
 use Rattle.aml_parser.specs.Reading.{Fault, ◌>>=◌, passing, production_begun, text_ended, read, Takes, Stops, TakesPart, Fails}
+use Rattle.aml_parser.proofs.Split.{front_joined, back_joined}
 
 -- ---- results one after the other
 
@@ -70,14 +71,6 @@ stops_then {ts} {i} {is} {v} a b = record { goes = λ s. a.goes (is ++ s) ∙ ap
 
 -- ---- an item by its first token
 
-front_of_joined : (is s : List Item) (us : Values is) (ws : Values s) → front is s (joined_values is s us ws) ≡ us
-front_of_joined [] s us ws = refl
-front_of_joined (i ∷ is) s us ws = ap (λ (vs : Values is). (us.0, vs)) (front_of_joined is s us.1 ws)
-
-back_of_joined : (is s : List Item) (us : Values is) (ws : Values s) → back is s (joined_values is s us ws) ≡ ws
-back_of_joined [] s us ws = refl
-back_of_joined (i ∷ is) s us ws = back_of_joined is s us.1 ws
-
 abbrev pub paired : (i : Item) (s : List Item) → Value i → Values s → Values (i ∷ s)
 paired i s v vs = (v, vs)
 
@@ -85,8 +78,8 @@ gathered_joined : (i : Item) (s : List Item) (p : Production i) (us : Values p.i
     → ((r >>= λ ws. Ok (joined_values p.items s us ws)) >>= λ vs. Ok (gathered i s p vs)) ≡ (r >>= λ ws. Ok (paired i s (p.make us) ws))
 gathered_joined i s p us (Err f) = refl
 gathered_joined i s p us (Ok ws) =
-    ap (λ (vs : Values p.items). fine (paired i s (p.make vs) (back p.items s (joined_values p.items s us ws)))) (front_of_joined p.items s us ws)
-    ∙ ap (λ (xs : Values s). fine (paired i s (p.make us) xs)) (back_of_joined p.items s us ws)
+    ap (λ (vs : Values p.items). fine (paired i s (p.make vs) (back p.items s (joined_values p.items s us ws)))) (front_joined p.items s us ws)
+    ∙ ap (λ (xs : Values s). fine (paired i s (p.make us) xs)) (back_joined p.items s us ws)
 
 pub takes_by : (ts : List Token) (i : Item) (t : Token) (p : Production i) (us : Values p.items) (names at after end : ℕ) → slice_get ts at ≡ Some t → expand i t ≡ Some p → mark names p.event ≡ None
     → Takes ts p.items us (counted names p.event) (at + 1) after end → Takes ts (i ∷ []) (p.make us, tt) names at after end

@@ -1,10 +1,11 @@
 -- The tokens of a text: a name is one of the grammar, a number and a field are within their ranges.
-use Rattle.std.proofs.Common.{◌≡◌, ℕ, ◌+◌, ◌<◌, ◌^◌, nat_lt, nat_le, ◌==◌, ◌&&◌, ◌||◌, Bool, true, false, if◌then◌else◌, map, List, [], ◌∷◌, ◌++◌, length, Option, Some, None, Result, Ok, Err, codes, refl, sym, ap, ◌∙◌, inl, inr, ◌⊎◌, arith, rules, tests}
+use Rattle.std.proofs.Common.{◌≡◌, ℕ, ◌+◌, ◌<◌, ◌^◌, nat_lt, nat_le, ◌==◌, ◌&&◌, ◌||◌, Bool, true, false, if◌then◌else◌, map, List, [], ◌∷◌, ◌++◌, length, Option, Some, None, Result, Ok, Err, codes, refl, sym, ap, ◌∙◌, inl, inr, arith, rules, tests}
 use Rattle.std.proofs.lemmas.Slice.Eq.{bytes_eq-Decides}
 use Rattle.std.proofs.lemmas.List.Folds.{list_all-append, list_any-append}
 use Rattle.std.specs.List.{AllByRecursion, list_all, list_any}
 use Rattle.std.specs.Str.{bytes_eq}
 use Rattle.std.specs.Str.Parse.{digits_value}
+use Rattle.std.proofs.lemmas.Bool.{cases_Bool, or_cases, and_parts, and_from, or_from}
 use Rattle.aml_tokens.specs.Names.{IsToken}
 use Rattle.aml_tokens.specs.declared.tokens.Symbol.{Symbol}
 use Rattle.aml_tokens.specs.declared.tokens.TextCause.{TextCause}
@@ -14,19 +15,6 @@ use Rattle.aml_tokens.specs.Token.{Token, Name, Number, Field, Sign, Let, CloseB
 use Rattle.aml_tokens.specs.Lexing.{Piece, joins, piece_ended, pieces_from, pieces, without_comments, symbol_of, field_of, field_words, is_plain, number_token, either, word_token, sign_token, token_in, within, token_at, onto, tokens_in, tokens, places, Tokens, line_at}
 
 -- ---- tests
-
-by_test : (b : Bool) → (b ≡ true) ⊎ (b ≡ false)
-by_test true = inl refl
-by_test false = inr refl
-
-or_is : (a b : Bool) → (a || b) ≡ true → (a ≡ true) ⊎ (b ≡ true)
-or_is true b e = inl refl
-or_is false b e = inr e
-
-and_is : (a b : Bool) → (a && b) ≡ true → (a ≡ true) × (b ≡ true)
-and_is true true e = (refl, refl)
-and_is true false e = absurd cc
-and_is false b e = absurd cc
 
 is_same : (a b : ℕ) → (a == b) ≡ true → a ≡ b
 is_same a b e = search (rules, tests)
@@ -38,11 +26,11 @@ no_both b x y = absurd cc
 
 no_comparison : (c : ℕ) → begins_comparison c ≡ true → is_word_byte c ≡ false
 no_comparison c e =
-    elim (or_is (((c == 61) || (c == 33)) || (c == 60)) (c == 62) e) [
+    elim (or_cases (((c == 61) || (c == 33)) || (c == 60)) (c == 62) e) [
       | inr h ↦ ap is_word_byte (is_same c 62 h)
-      | inl e ↦ elim (or_is ((c == 61) || (c == 33)) (c == 60) e) [
+      | inl e ↦ elim (or_cases ((c == 61) || (c == 33)) (c == 60) e) [
         | inr h ↦ ap is_word_byte (is_same c 60 h)
-        | inl e ↦ elim (or_is (c == 61) (c == 33) e) [
+        | inl e ↦ elim (or_cases (c == 61) (c == 33) e) [
           | inl h ↦ ap is_word_byte (is_same c 61 h)
           | inr h ↦ ap is_word_byte (is_same c 33 h)
         ]
@@ -53,21 +41,18 @@ abbrev IsRun : List ℕ → Type 0
 IsRun [] = Unit {0}
 IsRun (b ∷ bs) = is_word_byte b ≡ true → list_all is_word_byte (b ∷ bs) ≡ true
 
-both : (a b : Bool) → a ≡ true → b ≡ true → (a && b) ≡ true
-both a b x y = rw (x, y) refl
-
 single_run : (b : ℕ) → IsRun (b ∷ [])
-single_run b h = both (is_word_byte b) true h refl
+single_run b h = and_from (is_word_byte b) true h refl
 
 joined_run : (bs : List ℕ) (b : ℕ) → IsRun bs → joins bs b ≡ true → IsRun (bs ++ b ∷ [])
 joined_run [] b run e = absurd cc
 joined_run (c ∷ []) b run e = λ h.
-    elim (or_is (is_word_byte c && is_word_byte b) (begins_comparison c && (b == 61)) e) [
-      | inl words ↦ both (is_word_byte c) (is_word_byte b && true) h (both (is_word_byte b) true (and_is (is_word_byte c) (is_word_byte b) words).1 refl)
-      | inr sign ↦ absurd (no_both (is_word_byte c) h (no_comparison c (and_is (begins_comparison c) (b == 61) sign).0))
+    elim (or_cases (is_word_byte c && is_word_byte b) (begins_comparison c && (b == 61)) e) [
+      | inl words ↦ and_from (is_word_byte c) (is_word_byte b && true) h (and_from (is_word_byte b) true (and_parts (is_word_byte c) (is_word_byte b) words).1 refl)
+      | inr sign ↦ absurd (no_both (is_word_byte c) h (no_comparison c (and_parts (begins_comparison c) (b == 61) sign).0))
     ]
 joined_run (c ∷ d ∷ bs) b run e = λ h.
-    list_all-append is_word_byte (c ∷ d ∷ bs) (b ∷ []) ∙ both (list_all is_word_byte (c ∷ d ∷ bs)) (is_word_byte b && true) (run h) (both (is_word_byte b) true (and_is (is_word_byte c) (is_word_byte b) e).1 refl)
+    list_all-append is_word_byte (c ∷ d ∷ bs) (b ∷ []) ∙ and_from (list_all is_word_byte (c ∷ d ∷ bs)) (is_word_byte b && true) (run h) (and_from (is_word_byte b) true (and_parts (is_word_byte c) (is_word_byte b) e).1 refl)
 
 abbrev AreRuns : List Piece → Type 0
 AreRuns ps = AllByRecursion (λ (p : Piece). IsRun p.bytes) ps
@@ -105,13 +90,10 @@ good_number bytes = by (is_plain bytes) (nat_lt (digits_value 10 bytes) (2 ^ 63)
     by false t e = tt
 
 differ : (a b : List ℕ) → bytes_eq a b ≡ false → bytes_eq b a ≡ false
-differ a b e = elim (by_test (bytes_eq b a)) [
+differ a b e = elim (cases_Bool (bytes_eq b a)) [
   | inr other ↦ other
   | inl there ↦ absurd (no_both (bytes_eq a b) ((bytes_eq-Decides a b).1 (sym ((bytes_eq-Decides b a).0 there))) e)
 ]
-
-neither : (a b : Bool) → a ≡ false → b ≡ false → (a || b) ≡ false
-neither a b x y = rw (x, y) refl
 
 no_keyword : (symbols : List Symbol) (bytes : List ℕ) → symbol_of symbols bytes ≡ None → list_any (λ (word : List ℕ). bytes_eq word bytes) (map symbol_bytes symbols) ≡ false
 no_keyword [] bytes e = refl
@@ -120,7 +102,7 @@ no_keyword (s ∷ symbols) bytes e = by (bytes_eq bytes (symbol_bytes s)) refl e
     by : (t : Bool) → bytes_eq bytes (symbol_bytes s) ≡ t → (if t then Some s else symbol_of symbols bytes) ≡ None
         → (symbol_of symbols bytes ≡ None → list_any (λ (word : List ℕ). bytes_eq word bytes) (map symbol_bytes symbols) ≡ false) → list_any (λ (word : List ℕ). bytes_eq word bytes) (map symbol_bytes (s ∷ symbols)) ≡ false
     by true same none more = absurd cc
-    by false other none more = neither (bytes_eq (symbol_bytes s) bytes) (list_any (λ (word : List ℕ). bytes_eq word bytes) (map symbol_bytes symbols)) (differ bytes (symbol_bytes s) other) (more none)
+    by false other none more = or_from (bytes_eq (symbol_bytes s) bytes) (list_any (λ (word : List ℕ). bytes_eq word bytes) (map symbol_bytes symbols)) (differ bytes (symbol_bytes s) other) (more none)
 
 no_field : (k : ℕ) (words : List (List ℕ)) (bytes : List ℕ) → field_of k words bytes ≡ None → list_any (λ (word : List ℕ). bytes_eq word bytes) words ≡ false
 no_field k [] bytes e = refl
@@ -129,7 +111,7 @@ no_field k (word ∷ words) bytes e = by (bytes_eq bytes word) refl e (no_field 
     by : (t : Bool) → bytes_eq bytes word ≡ t → (if t then Some k else field_of (k + 1) words bytes) ≡ None
         → (field_of (k + 1) words bytes ≡ None → list_any (λ (word : List ℕ). bytes_eq word bytes) words ≡ false) → list_any (λ (word : List ℕ). bytes_eq word bytes) (word ∷ words) ≡ false
     by true same none more = absurd cc
-    by false other none more = neither (bytes_eq word bytes) (list_any (λ (word : List ℕ). bytes_eq word bytes) words) (differ bytes word other) (more none)
+    by false other none more = or_from (bytes_eq word bytes) (list_any (λ (word : List ℕ). bytes_eq word bytes) words) (differ bytes word other) (more none)
 
 some_field : (words : List (List ℕ)) (k f : ℕ) (bytes : List ℕ) → field_of k words bytes ≡ Some f → f < k + length words
 some_field [] k f bytes e = absurd cc
@@ -159,7 +141,7 @@ good_word line b bs run letter = by (bytes_eq (b ∷ bs) (codes "let")) refl (sy
       bytes = run (rw letter refl);
       short = search (rules, tests);
       free = rw (differ (b ∷ bs) (codes "let") l) (list_any-append (λ (word : List ℕ). bytes_eq word (b ∷ bs)) (map symbol_bytes keywords) field_words
-          ∙ neither (list_any (λ (word : List ℕ). bytes_eq word (b ∷ bs)) (map symbol_bytes keywords)) (list_any (λ (word : List ℕ). bytes_eq word (b ∷ bs)) field_words) (no_keyword keywords (b ∷ bs) a) (no_field 0 field_words (b ∷ bs) x));
+          ∙ or_from (list_any (λ (word : List ℕ). bytes_eq word (b ∷ bs)) (map symbol_bytes keywords)) (list_any (λ (word : List ℕ). bytes_eq word (b ∷ bs)) field_words) (no_keyword keywords (b ∷ bs) a) (no_field 0 field_words (b ∷ bs) x));
     }
 
 good_sign : (line : ℕ) (bytes : List ℕ) → IsGood (sign_token line bytes)

@@ -5,6 +5,7 @@ use Rattle.std.proofs.lemmas.Bool.Decides.{nat_tests}
 use Rattle.std.proofs.lemmas.Grind.{flat_map-append}
 use Rattle.std.proofs.lemmas.List.{append-nil, append_assoc, map_more, length-map, length-take-le}
 use Rattle.std.proofs.lemmas.List.Concat.{flat_map-cons}
+use Rattle.snap_base.proofs.Lists.{map_twice}
 use Rattle.aml_tokens.specs.declared.tokens.Word.{Word}
 use Rattle.aml_tokens.specs.declared.tokens.Symbol.TheVariants as symbol
 use Rattle.aml_tokens.specs.Token.{Token, Sign}
@@ -61,10 +62,6 @@ listed_more g xs i x lt is =
     let more : map g (take (i + 1) xs) ≡ map g (take i xs) ++ g x ∷ [] = map_more g xs i x lt ∙ ap (λ y. map g (take i xs) ++ g y ∷ []) (sym is) in
     let many : length (map g (take i xs)) ≡ i = length-map (take i xs) g ∙ length-take-le i xs (omega arith) in
     ap listed more ∙ listed_push (map g (take i xs)) (g x) ∙ ap (λ (n : ℕ). listed (map g (take i xs)) ++ (comma_before n ++ g x)) many
-
-map_twice : {X Y Z : Type 0} (f : Y → Z) (g : X → Y) (xs : List X) → map f (map g xs) ≡ map (λ x. f (g x)) xs
-map_twice f g [] = refl
-map_twice f g (x ∷ xs) = ap (λ zs. f (g x) ∷ zs) (map_twice f g xs)
 
 pub listed_more_of : {X Y : Type 0} (f : Y → List Token) (g : X → Y) (xs : List X) (i : ℕ) (x : X) → i < length xs → x ≡ get_or xs i x
     → listed (map f (map g (take (i + 1) xs))) ≡ listed (map f (map g (take i xs))) ++ (comma_before i ++ f (g x))

@@ -2,6 +2,8 @@
 use Rattle.std.proofs.Common.{◌≡◌, ℕ, ◌+◌, ◌<◌, List, [], ◌∷◌, ◌++◌, length, take, drop, get_or, map, refl, sym, ap, ◌∙◌, subst, append_assoc, append-nil}
 use Rattle.std.specs.List.{flat_map}
 use Rattle.std.proofs.lemmas.List.{take_more, take-append-drop, map-append}
+use Rattle.std.proofs.lemmas.List.Concat.{flat_map-append}
+use Rattle.snap_base.proofs.Lists.{flat_step}
 use Rattle.aml_tokens.specs.declared.tokens.Word.{Word}
 use Rattle.aml_tree.specs.declared.trees.Link.{Link}
 use Rattle.aml_tree.specs.Tree.{Expr, Binary, chain_tree}
@@ -26,14 +28,6 @@ both_faultless fs gs e f = ap (λ hs. hs ++ gs) e ∙ f
 
 -- ---- a list of parts, of which those before a place have no fault
 
-flat-append : {A B : Type 0} (f : A → List B) (xs ys : List A) → flat_map f (xs ++ ys) ≡ flat_map f xs ++ flat_map f ys
-flat-append f [] ys = refl
-flat-append f (x ∷ xs) ys = ap (λ zs. f x ++ zs) (flat-append f xs ys) ∙ sym (append_assoc (f x) (flat_map f xs) (flat_map f ys))
-
-flat-more : {A B : Type 0} (f : A → List B) (xs : List A) (i : ℕ) (x : A) → i < length xs → x ≡ get_or xs i x → flat_map f (take (i + 1) xs) ≡ flat_map f (take i xs) ++ f x
-flat-more f xs i x h is =
-    ap (flat_map f) (take_more xs i x h ∙ ap (λ y. take i xs ++ y ∷ []) (sym is)) ∙ flat-append f (take i xs) (x ∷ []) ∙ ap (λ zs. flat_map f (take i xs) ++ zs) (append-nil (f x))
-
 flat-map : {A B C : Type 0} (f : B → List C) (g : A → B) (xs : List A) → flat_map f (map g xs) ≡ flat_map (λ y. f (g y)) xs
 flat-map f g [] = refl
 flat-map f g (x ∷ xs) = ap (λ zs. f (g x) ++ zs) (flat-map f g xs)
@@ -41,8 +35,8 @@ flat-map f g (x ∷ xs) = ap (λ zs. f (g x) ++ zs) (flat-map f g xs)
 pub parts_refuse : {A : Type 0} (f : A → List CheckFault) (xs : List A) (i : ℕ) (x : A) (e : CheckNo) → i < length xs → x ≡ get_or xs i x → flat_map f (take i xs) ≡ [] → Refuses (f x) e → Refuses (flat_map f xs) e
 parts_refuse f xs i x e h is none here =
     let P : List CheckFault → Type 0 = λ hs. Refuses hs e in
-    let so_far : Refuses (flat_map f (take (i + 1) xs)) e = subst P (sym (flat-more f xs i x h is)) (refuses_behind (flat_map f (take i xs)) (f x) e none here) in
-    subst P (sym (ap (flat_map f) (sym (take-append-drop (i + 1) xs)) ∙ flat-append f (take (i + 1) xs) (drop (i + 1) xs))) (refuses_more (flat_map f (take (i + 1) xs)) (flat_map f (drop (i + 1) xs)) e so_far)
+    let so_far : Refuses (flat_map f (take (i + 1) xs)) e = subst P (sym (flat_step f xs i x h is)) (refuses_behind (flat_map f (take i xs)) (f x) e none here) in
+    subst P (sym (ap (flat_map f) (sym (take-append-drop (i + 1) xs)) ∙ flat_map-append f (take (i + 1) xs) (drop (i + 1) xs))) (refuses_more (flat_map f (take (i + 1) xs)) (flat_map f (drop (i + 1) xs)) e so_far)
 
 -- the same of parts that are views of the elements
 pub mapped_refuse : {A B : Type 0} (f : B → List CheckFault) (g : A → B) (xs : List A) (i : ℕ) (x : A) (e : CheckNo) → i < length xs → x ≡ get_or xs i x → flat_map f (map g (take i xs)) ≡ [] → Refuses (f (g x)) e → Refuses (flat_map f (map g xs)) e
@@ -51,7 +45,7 @@ mapped_refuse f g xs i x e h is none here =
     subst P (sym (flat-map f g xs)) (parts_refuse (λ y. f (g y)) xs i x e h is (sym (flat-map f g (take i xs)) ∙ none) here)
 
 pub parts_more : {A : Type 0} (f : A → List CheckFault) (xs : List A) (i : ℕ) (x : A) → i < length xs → x ≡ get_or xs i x → flat_map f (take i xs) ≡ [] → f x ≡ [] → flat_map f (take (i + 1) xs) ≡ []
-parts_more f xs i x h is none here = flat-more f xs i x h is ∙ both_faultless (flat_map f (take i xs)) (f x) none here
+parts_more f xs i x h is none here = flat_step f xs i x h is ∙ both_faultless (flat_map f (take i xs)) (f x) none here
 
 pub map_next : {A B : Type 0} (f : A → B) (xs : List A) (i : ℕ) (x : A) → i < length xs → x ≡ get_or xs i x → map f (take (i + 1) xs) ≡ map f (take i xs) ++ f x ∷ []
 map_next f xs i x h is = ap (map f) (take_more xs i x h ∙ ap (λ y. take i xs ++ y ∷ []) (sym is)) ∙ map-append f (take i xs) (x ∷ [])

@@ -4,7 +4,7 @@ use Rattle.std.proofs.Common.{◌≡◌, ℕ, ◌+◌, ◌-◌, ◌≤◌, ◌<�
 use Rattle.std.specs.List.{AllByRecursion, flat_map}
 use Rattle.std.specs.Str.{bytes_eq}
 use Rattle.std.proofs.lemmas.Bool.Decides.{nat_tests}
-use Rattle.std.proofs.lemmas.Bool.{eqb-true}
+use Rattle.std.proofs.lemmas.Bool.{eqb-true, and_parts}
 use Rattle.std.proofs.lemmas.List.{get_or-map, length-map, take_more}
 use Rattle.aml_tokens.specs.declared.tokens.Word.{Word}
 use Rattle.aml_tokens.specs.declared.tokens.TextCause.{TextCause}
@@ -48,13 +48,9 @@ by_bound false c e = absurd cc
 pub below : (n m : ℕ) (c : TextCause) → (if nat_lt n m then None else Some c) ≡ None → n < m
 below n m c e = let t : nat_lt n m ≡ true = by_bound (nat_lt n m) c e in grind (arith, nat_tests)
 
-both_hold : (a b : Bool) → (a && b) ≡ true → (a ≡ true) × (b ≡ true)
-both_hold true b e = (refl, e)
-both_hold false b e = absurd cc
-
 pub in_bounds : (n low high : ℕ) (c : TextCause) → (if nat_le low n && nat_le n high then None else Some c) ≡ None → (low ≤ n) × (n ≤ high)
 in_bounds n low high c e =
-    let t = both_hold (nat_le low n) (nat_le n high) (by_bound (nat_le low n && nat_le n high) c e) in
+    let t = and_parts (nat_le low n) (nat_le n high) (by_bound (nat_le low n && nat_le n high) c e) in
     let t0 : nat_le low n ≡ true = t.0 in
     let t1 : nat_le n high ≡ true = t.1 in
     (grind (arith, nat_tests), grind (arith, nat_tests))

@@ -20,9 +20,6 @@ use Rattle.aml_tree.specs.TreeRules.{put_last, lets_onto}
 pub none : (fs gs : List CheckFault) → fs ≡ [] → fs ++ gs ≡ gs
 none fs gs e = ap (λ hs. hs ++ gs) e
 
-pub none_before : (fs gs : List CheckFault) (e : CheckNo) → fs ≡ [] → Refuses gs e → Refuses (fs ++ gs) e
-none_before fs gs e is h = let P : List CheckFault → Type 0 = λ hs. Refuses hs e in subst P (sym (none fs gs is)) h
-
 -- ---- names
 
 take_whole : (xs : List (List ℕ)) → take (length xs) xs ≡ xs

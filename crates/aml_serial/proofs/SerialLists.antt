@@ -1,6 +1,5 @@
 -- A serial execution, one transaction more.
-use Rattle.std.proofs.Common.{◌≡◌, ℕ, zero, suc, ◌+◌, ◌<◌, List, [], ◌∷◌, ◌++◌, length, take, get_or, refl, sym, ap, ◌∙◌, subst, arith}
-use Rattle.std.specs.List.{AllByRecursion}
+use Rattle.std.proofs.Common.{◌≡◌, ℕ, ◌+◌, ◌<◌, List, [], ◌∷◌, ◌++◌, length, take, get_or, refl, sym, ap, ◌∙◌}
 use Rattle.std.proofs.lemmas.List.{take_more}
 use Rattle.snap_base.specs.declared.transactions.State.{State}
 use Rattle.snap_base.specs.declared.transactions.Tx.{Tx}
@@ -26,9 +25,3 @@ serial_more p world now txs i tx results result next h is so_far one =
     ∙ serial-push p world (take i txs) tx
     ∙ ap (λ (run : Serial). then_one run (alone p run.world tx)) so_far
     ∙ ap (then_one (serial_run results now)) one
-
--- what holds of every element holds of one
-pub at_place : {A : Type 0} (P : A → Type 0) (xs : List A) (i : ℕ) (x : A) → i < length xs → x ≡ get_or xs i x → AllByRecursion P xs → P x
-at_place P [] i x h is all = absurd (omega arith)
-at_place P (y ∷ ys) zero x h is all = subst P (sym is) all.0
-at_place P (y ∷ ys) (suc i) x h is all = at_place P ys i x (omega (arith, h)) is all.1

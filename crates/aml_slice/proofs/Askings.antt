@@ -5,6 +5,7 @@ use Rattle.std.proofs.lemmas.Bool.Decides.{nat_tests}
 use Rattle.std.proofs.lemmas.Bool.{eq-eqb}
 use Rattle.std.proofs.lemmas.List.{drop_more, reverse-append}
 use Rattle.snap_base.specs.declared.ids.ActorId.{ActorId}
+use Rattle.snap_base.proofs.Booleans.{or_true}
 use Rattle.aml_slice.specs.declared.frames.Frame as code
 use Rattle.aml_slice.specs.Controls.{Frame, IsLeft, StandsOn}
 use Rattle.aml_slice.specs.Views.{frame_of, WaitsOn}
@@ -86,10 +87,6 @@ any_contains a (b ∷ bs) h =
       | inl same ↦ (0, omega arith, same)
       | inr more ↦ (let k = any_contains a bs more in (k.0 + 1, omega (arith, k.1), (let e : k.0 + 1 ≡ suc k.0 = omega arith in rw e k.2)))
     ]
-
-or_true : (b : Bool) → (b || true) ≡ true
-or_true true = refl
-or_true false = refl
 
 any_at : (a : ℕ) (bs : List ℕ) (k : ℕ) → k < length bs → get_or bs k a ≡ a → list_any (λ c. c == a) bs ≡ true
 any_at a [] k within is = absurd (omega arith)

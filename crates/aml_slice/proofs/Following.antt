@@ -1,8 +1,9 @@
 -- What a control keeps in one move.
-use Rattle.std.proofs.Common.{◌≡◌, ℕ, zero, suc, ◌+◌, ◌<◌, ◌≤◌, inl, inr, ℤ, Ok, Option, List, [], ◌∷◌, length, get_or, sym, ap, ◌∙◌, subst, arith, length-append}
+use Rattle.std.proofs.Common.{◌≡◌, ℕ, ◌+◌, ◌<◌, ◌≤◌, inl, inr, ℤ, Ok, Option, List, [], ◌∷◌, length, sym, ap, ◌∙◌, subst, arith, length-append}
 use Rattle.std.specs.List.{AllByRecursion, Contains}
 use Rattle.snap_base.specs.declared.ids.ActorId.{ActorId}
 use Rattle.snap_base.specs.declared.transactions.State.{State}
+use Rattle.snap_base.proofs.Lists.{each_read, weaker}
 use Rattle.aml_tree.specs.Tree.{Code, CheckedMethod}
 use Rattle.aml_check.specs.Names.{method_at, no_method}
 use Rattle.aml_check.specs.Closed.{IsClosedMethod, IsClosedProgram}
@@ -13,15 +14,6 @@ use Rattle.aml_slice.specs.Controls.{Frame, Rest, IsFrame, IsRest, StandsOn, Has
 use Rattle.aml_slice.specs.Views.{NextFrame, HasPlace, Enters}
 use Rattle.aml_slice.proofs.Moving.{Ran, Follows}
 use Rattle.aml_slice.proofs.Admissions.{Admits, admits}
-
-pub all_at : {X : Type 0} (P : X → Type 0) (xs : List X) (i : ℕ) (d : X) → AllByRecursion P xs → i < length xs → P (get_or xs i d)
-all_at P [] i d h within = absurd (omega arith)
-all_at P (x ∷ xs) zero d h within = h.0
-all_at P (x ∷ xs) (suc i) d h within = all_at P xs i d h.1 (omega arith)
-
-more_all : {X : Type 0} (P Q : X → Type 0) (xs : List X) → ((x : X) → P x → Q x) → AllByRecursion P xs → AllByRecursion Q xs
-more_all P Q [] f h = tt
-more_all P Q (x ∷ xs) f h = (f x h.0, more_all P Q xs f h.1)
 
 -- ---- frames
 
@@ -37,7 +29,7 @@ given_frame p count f v h =
 
 pub fresh_frame : (p : List CheckedMethod) (count a m : ℕ) (arguments : List ℤ) → IsClosedProgram p → a < count → m < length p → length arguments ≡ length (method_at p m).parameters → IsFrame p count 0 (fresh a m arguments)
 fresh_frame p count a m arguments closed known has fits =
-    let method = all_at (IsClosedMethod p) p m no_method closed.methods has in
+    let method = each_read (IsClosedMethod p) p m no_method closed.methods has in
     let P : ℕ → Type 0 = λ n. IsRunnable p n (method_at p m).body in
     record {
       known = known;
@@ -123,7 +115,7 @@ follows_call p count c d e s t arguments target m a closed is ran enters =
     let kept : (b : ℕ) → Contains c.actors b → Contains e.actors b = λ b h. took.kept b (let W : List ℕ → Type 0 = λ bs. Contains bs b in subst W (sym actors_is) h) in
     let old : IsFrame p count 1 (record c.top { standing = d.top.standing }) = record { known = is.top.known; has_method = is.top.has_method; place = ran.asks.0 } in
     let below : List Frame → Type 0 = AllByRecursion (λ (g : Frame). Contains e.actors g.actor) in
-    let standing_below : AllByRecursion (λ (g : Frame). Contains e.actors g.actor) c.waiting = more_all (λ (g : Frame). Contains c.actors g.actor) (λ (g : Frame). Contains e.actors g.actor) c.waiting (λ g h. kept g.actor h) is.visited_below in
+    let standing_below : AllByRecursion (λ (g : Frame). Contains e.actors g.actor) c.waiting = weaker (λ (g : Frame). Contains c.actors g.actor) (λ (g : Frame). Contains e.actors g.actor) c.waiting (λ g h. kept g.actor h) is.visited_below in
     let T : Frame → Type 0 = λ g. Contains e.actors g.actor in
     record {
       rest = record {

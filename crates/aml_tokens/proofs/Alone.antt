@@ -10,6 +10,7 @@ use Rattle.std.proofs.lemmas.Fmt.{decimal_is_IsNumeral, decimal_nonempty, first_
 use Rattle.std.proofs.lemmas.List.Folds.{list_any-append}
 use Rattle.std.proofs.lemmas.Slice.Eq.{bytes_eq-Decides}
 use Rattle.std.proofs.lemmas.Str.Parse.{IsNumeralModel, numerals_by_value}
+use Rattle.snap_base.proofs.Booleans.{first_true, second_true, first_false, second_false}
 use Rattle.aml_tokens.specs.declared.tokens.Symbol.{Symbol}
 use Rattle.aml_tokens.specs.declared.tokens.Symbol.TheVariants as symbol
 use Rattle.aml_tokens.specs.declared.limits.TheConstants.{LONGEST_NAME}
@@ -25,22 +26,6 @@ pub record IsAlone (t : Token) : Type 0 where
   pub read : token_in 1 (token_bytes t) ≡ Ok (in_first_line t)
 
 -- ---- tests
-
-first_true : (a b : Bool) → (a && b) ≡ true → a ≡ true
-first_true true b h = refl
-first_true false b h = absurd cc
-
-second_true : (a b : Bool) → (a && b) ≡ true → b ≡ true
-second_true true b h = h
-second_true false b h = absurd cc
-
-first_false : (a b : Bool) → (a || b) ≡ false → a ≡ false
-first_false true b h = absurd cc
-first_false false b h = refl
-
-second_false : (a b : Bool) → (a || b) ≡ false → b ≡ false
-second_false true b h = absurd cc
-second_false false b h = h
 
 or_false : (t : Bool) → IsTrue (t || false) → t ≡ true
 or_false true h = refl
@@ -105,7 +90,7 @@ name_alone (b ∷ bs) h =
 
 -- ---- numbers
 
-own : IsNumeralModel (λ ds. list_all is_digit ds ≡ true) (digits_value 10)
+pub own : IsNumeralModel (λ ds. list_all is_digit ds ≡ true) (digits_value 10)
 own = numerals_by_value (λ ds. list_all is_digit ds ≡ true) (search rules)
 
 decimal_digits : (n : ℕ) → n < 2 ^ 63 → list_all is_digit (decimal n) ≡ true

@@ -3,6 +3,7 @@ use Rattle.std.proofs.Common.{◌≡◌, ℕ, ◌+◌, ◌-◌, ◌<◌, Bool, t
 use Rattle.std.specs.List.{between}
 use Rattle.std.proofs.lemmas.List.{drop_more}
 use Rattle.std.proofs.lemmas.List.Edits.{between_more, length-between}
+use Rattle.snap_base.proofs.Booleans.{and_false}
 use Rattle.aml_tokens.specs.Bytes.{is_word_byte, begins_comparison}
 use Rattle.aml_tokens.specs.Lexing.{Piece, joins, piece_ended, pieces_from, without_comments}
 use Rattle.aml_tokens.specs.Reading.{pieces_at}
@@ -13,20 +14,16 @@ neither true false = refl
 neither false true = refl
 neither false false = refl
 
-not_both : (a : Bool) → (a && false) ≡ false
-not_both true = refl
-not_both false = refl
-
 -- no piece goes on with a blank or a comment
 pub blank_ends : (front : List ℕ) → joins front 32 ≡ false
 blank_ends [] = refl
 blank_ends (c ∷ []) = neither (is_word_byte c) (begins_comparison c)
-blank_ends (c ∷ d ∷ front) = not_both (is_word_byte c)
+blank_ends (c ∷ d ∷ front) = and_false (is_word_byte c)
 
 comment_ends : (front : List ℕ) → joins front 35 ≡ false
 comment_ends [] = refl
 comment_ends (c ∷ []) = neither (is_word_byte c) (begins_comparison c)
-comment_ends (c ∷ d ∷ front) = not_both (is_word_byte c)
+comment_ends (c ∷ d ∷ front) = and_false (is_word_byte c)
 
 ends_there : (at : ℕ) (front : List ℕ) (b : ℕ) (bs : List ℕ) → joins front b ≡ false → pieces_from at front (b ∷ bs) ≡ piece_ended at front (pieces_from at [] (b ∷ bs))
 ends_there at front b bs h = rw h refl

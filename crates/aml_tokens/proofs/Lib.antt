@@ -8,5 +8,5 @@ mod Placed
 mod Printable
 mod Told
 mod ReadBack
-mod Alone
+pub mod Alone
 mod WrittenBack

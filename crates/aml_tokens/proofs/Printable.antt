@@ -10,6 +10,7 @@ use Rattle.std.proofs.lemmas.List.Folds.{list_all-append}
 use Rattle.std.proofs.lemmas.List.Recursion.{and_at}
 use Rattle.std.proofs.lemmas.List.Sums.{sum_by-cons}
 use Rattle.std.proofs.lemmas.Slice.Eq.{bytes_eq-Decides}
+use Rattle.snap_base.proofs.Booleans.{second_true}
 use Rattle.aml_tokens.specs.declared.tokens.Symbol.{Symbol}
 use Rattle.aml_tokens.specs.declared.tokens.TextCause.{TextCause}
 use Rattle.aml_tokens.specs.declared.tokens.TextCause.TheVariants as cause
@@ -34,16 +35,12 @@ digit_printed b h = grind (arith, nat_tests)
 
 -- ---- behind the first byte
 
-second : (a b : Bool) → (a && b) ≡ true → b ≡ true
-second true b h = h
-second false b h = absurd cc
-
 either_printed : (a c : Bool) (b : ℕ) → ((a && is_word_byte b) || (c && (b == 61))) ≡ true → is_printed b ≡ true
 either_printed a c b h = by_word (is_word_byte b) refl
   where
     is_equal : (x y : Bool) → ((x && false) || (c && y)) ≡ true → y ≡ true
-    is_equal true y k = second c y k
-    is_equal false y k = second c y k
+    is_equal true y k = second_true c y k
+    is_equal false y k = second_true c y k
 
     by_word : (t : Bool) → is_word_byte b ≡ t → is_printed b ≡ true
     by_word true e = word_printed b e
@@ -54,7 +51,7 @@ either_printed a c b h = by_word (is_word_byte b) refl
 joined_printed : (front : List ℕ) (b : ℕ) → joins front b ≡ true → is_printed b ≡ true
 joined_printed [] b h = absurd cc
 joined_printed (c ∷ []) b h = either_printed (is_word_byte c) (begins_comparison c) b h
-joined_printed (c ∷ d ∷ front) b h = word_printed b (second (is_word_byte c) (is_word_byte b) h)
+joined_printed (c ∷ d ∷ front) b h = word_printed b (second_true (is_word_byte c) (is_word_byte b) h)
 
 grown_printed : (bs front : List ℕ) → Grows front bs → list_all is_printed bs ≡ true
 grown_printed [] front g = refl
@@ -161,7 +158,7 @@ no_feed : (b : ℕ) → is_printed b ≡ true → (b == 10) ≡ false
 no_feed b h = grind (arith, nat_tests)
 
 rest_of : (b : ℕ) (bs : List ℕ) → list_all is_printed (b ∷ bs) ≡ true → list_all is_printed bs ≡ true
-rest_of b bs h = second (is_printed b) (list_all is_printed bs) h
+rest_of b bs h = second_true (is_printed b) (list_all is_printed bs) h
 
 one_line : (w : List ℕ) (at : ℕ) → IsPrinted w → count_by (λ b. b == 10) (take at w) ≡ 0
 one_line w zero h = refl

@@ -1,11 +1,11 @@
 -- Which bytes a token has, and what they are in the first line.
-use Rattle.std.proofs.Common.{rules, ◌≡◌, ℕ, suc, ◌+◌, ◌-◌, ◌^◌, ◌<◌, ◌≤◌, ◌==◌, nat_lt, nat_le, Bool, true, false, ◌&&◌, List, [], ◌∷◌, length, get_or, Option, Some, None, Result, Ok, Err, refl, sym, ap, subst, ◌∙◌, arith, ltb-true}
+use Rattle.std.proofs.Common.{◌≡◌, ℕ, suc, ◌+◌, ◌-◌, ◌^◌, ◌<◌, ◌≤◌, ◌==◌, nat_lt, nat_le, Bool, true, false, List, [], ◌∷◌, length, get_or, Option, Some, None, Result, Ok, Err, refl, sym, ap, subst, ◌∙◌, arith, ltb-true}
 use Rattle.std.specs.Prelude.{if◌then◌else◌, codes}
 use Rattle.std.specs.List.{list_all}
 use Rattle.std.specs.Str.{bytes_eq}
 use Rattle.std.specs.Str.Parse.{digits_value}
 use Rattle.std.proofs.lemmas.Fmt.{decimal-digits_value}
-use Rattle.std.proofs.lemmas.Str.Parse.{IsNumeralModel, numerals_by_value}
+use Rattle.snap_base.proofs.Booleans.{first_true, second_true}
 use Rattle.aml_tokens.specs.declared.tokens.Symbol.{Symbol}
 use Rattle.aml_tokens.specs.declared.tokens.TextCause.{TextCause}
 use Rattle.aml_tokens.specs.declared.tokens.TextCause.TheVariants as cause
@@ -14,6 +14,7 @@ use Rattle.aml_tokens.specs.Bytes.{is_letter, is_digit, symbol_bytes, keywords, 
 use Rattle.aml_tokens.specs.Lexing.{symbol_of, field_of, field_words, is_plain, number_token, word_token, sign_token, token_in}
 use Rattle.aml_tokens.specs.Writing.{token_bytes, in_first_line}
 use Rattle.aml_tokens.proofs.Printable.{same_bytes, no_token}
+use Rattle.aml_tokens.proofs.Alone.{own}
 
 symbol_is : (ss : List Symbol) (bytes : List ℕ) (s : Symbol) → symbol_of ss bytes ≡ Some s → bytes ≡ symbol_bytes s
 symbol_is [] bytes s e = absurd cc
@@ -43,17 +44,6 @@ field_is (w ∷ words) k bytes n e = by_test (bytes_eq bytes w) refl (field_is w
         (omega arith, subst (λ (i : ℕ). bytes ≡ get_or (w ∷ words) i []) next m.1)
 
 -- ---- numbers
-
-own : IsNumeralModel (λ ds. list_all is_digit ds ≡ true) (digits_value 10)
-own = numerals_by_value (λ ds. list_all is_digit ds ≡ true) (search rules)
-
-first_true : (a b : Bool) → (a && b) ≡ true → a ≡ true
-first_true true b h = refl
-first_true false b h = absurd cc
-
-second_true : (a b : Bool) → (a && b) ≡ true → b ≡ true
-second_true true b h = h
-second_true false b h = absurd cc
 
 not_zero : (b : ℕ) → (if b == 48 then false else true) ≡ true → b ≡ 48 → ⊥
 not_zero b h e = let f : (if b == 48 then false else true) ≡ false = subst (λ (x : ℕ). (if x == 48 then false else true) ≡ false) (sym e) refl in cc (f, h)

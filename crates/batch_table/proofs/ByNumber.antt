@@ -3,6 +3,7 @@ use Rattle.std.proofs.Common.{◌≡◌, ℕ, zero, suc, ◌+◌, ◌<◌, ◌�
 use Rattle.std.specs.Prelude.{slice_get, slice_set, slice_index_or}
 use Rattle.std.proofs.lemmas.Bool.{eq-eqb, ne_eqb, cond-true, cond-false}
 use Rattle.std.proofs.lemmas.Option.{slice_get_past}
+use Rattle.snap_base.proofs.Lists.{set_outside}
 use Rattle.protocol.specs.Parts as stages
 use Rattle.protocol.specs.Parts.{Batch}
 use Rattle.protocol.specs.Words.{batch_of}
@@ -62,12 +63,6 @@ changed_at_place f d k low (suc i) (b ∷ bs) e q =
     let parts = cons_parts b.bid low (bids_of bs) (from (low + 1) (length bs)) e in
     let other : (b.bid == k) ≡ false = ne_eqb b.bid k (λ p. omega (arith, parts.0)) in
     cons_same (change_if (b.bid == k) f b) b (changed_batch k f bs) (slice_set bs i (f (slice_index_or bs i d))) (change_not (b.bid == k) f b other) (changed_at_place f d k (low + 1) i bs parts.1 (omega arith))
-
--- a change at a place past the end changes nothing
-pub set_outside : {X : Type 0} (xs : List X) (i : ℕ) (x : X) → length xs ≤ i → slice_set xs i x ≡ xs
-set_outside [] i x l = refl
-set_outside (y ∷ ys) zero x l = absurd (omega arith)
-set_outside (y ∷ ys) (suc i) x l = ap (λ z. y ∷ z) (set_outside ys i x (omega arith))
 
 -- ---- both together
 

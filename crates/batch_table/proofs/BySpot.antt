@@ -6,6 +6,7 @@ use Rattle.std.specs.Option.{option_and_then}
 use Rattle.std.proofs.lemmas.Bool.{eqb-true, eqb-false, eq-eqb, ne_eqb, cond-false, cond_both}
 use Rattle.std.proofs.lemmas.List.{length-set}
 use Rattle.snap_base.specs.declared.verdicts.Verdict.{Verdict}
+use Rattle.snap_base.proofs.Options.{none_is_some}
 use Rattle.protocol.specs.Parts.{Cascade, Pact, Batch}
 use Rattle.protocol.specs.Words.{covers}
 use Rattle.protocol.specs.Numbers.{flat, times, one_if}
@@ -31,9 +32,6 @@ tx_within n i p ps h l e = omega (arith, tx_at_within n i p ps h l, ap (λ (x : 
 some_place : (i j k m : ℕ) → Some (spot_at i j) ≡ Some (spot_at k m) → (i ≡ k) × (j ≡ m)
 some_place i j k m e =
     let same : spot_at i j ≡ spot_at k m = cc in (ap (λ (s : Spot). s.batch) same, ap (λ (s : Spot). s.place) same)
-
-none_not_some : {X : Type 0} (x : X) → None ≡ Some x → ⊥
-none_not_some x e = cc
 
 same_spot : (i k j m : ℕ) → i ≡ k → j ≡ m → spot_at i j ≡ spot_at k m
 same_spot i k j m e f = ap (λ x. spot_at x j) e ∙ ap (λ y. spot_at k y) f
@@ -85,7 +83,7 @@ pub found_at_spot : (n : ℕ) (sp : Spot) (spots : List Spot) (bs : List Batch) 
 found_at_spot n sp spots bs h s = found_there n 0 sp.batch sp.place spots bs h (s ∙ ap (λ z. Some (spot_at z sp.place)) (sym (zero-add sp.batch)))
 
 pub found_nowhere : (n i : ℕ) (spots : List Spot) (bs : List Batch) → AreSpotted i spots (batch_txs bs) → slice_get spots n ≡ None → pact_with_tx n bs ≡ None
-found_nowhere n i spots bs h s = missed_everywhere n i spots bs h (λ k m l g. none_not_some (spot_at k m) (sym s ∙ g))
+found_nowhere n i spots bs h s = missed_everywhere n i spots bs h (λ k m l g. none_is_some (spot_at k m) (sym s ∙ g))
 
 -- ---- the verdict of that PACT is the verdict
 
@@ -104,7 +102,7 @@ in_batch cascades n b (p ∷ ps) =
 
 -- who was found has a spot in the batch
 spot_of_found : (n i j : ℕ) (b : Batch) (x : Found) (spots : List Spot) (ps : List Pact) → AreSpottedIn i j spots (pact_txs ps) → found_in n b ps ≡ Some x → (k : ℕ) × (slice_get spots n ≡ Some (spot_at i k))
-spot_of_found n i j b x spots [] h e = absurd (none_not_some x e)
+spot_of_found n i j b x spots [] h e = absurd (none_is_some x e)
 spot_of_found n i j b x spots (p ∷ ps) h e =
     cond_both (p.tx == n) (Some (found_at b p)) (found_in n b ps) (λ o. o ≡ Some x → (k : ℕ) × (slice_get spots n ≡ Some (spot_at i k)))
     (λ q g. (j, ap (λ y. slice_get spots y) (sym (eqb-true p.tx n q)) ∙ h.0))

@@ -3,6 +3,7 @@ use Rattle.std.proofs.Common.{◌≡◌, ℕ, zero, suc, ◌+◌, ◌<◌, ◌�
 use Rattle.std.specs.Prelude.{slice_get, slice_set, slice_index_or, nat_le}
 use Rattle.std.specs.List.{AllByRecursion}
 use Rattle.std.proofs.lemmas.Bool.{eqb-true, eqb-false, or_cases, cond_both, and_parts, and_from, and_left, or_from, or_left, or_right, le-leb, lt-leb, leb-true, not-true, false≢true, cases_lt}
+use Rattle.snap_base.proofs.Booleans.{or_only}
 use Rattle.protocol.specs.Parts as stages
 use Rattle.protocol.specs.Parts.{Stage, Batch}
 use Rattle.protocol.specs.Words.{holds, is_formed, is_committing, is_settled, batch_of, is_open, is_next_to_commit}
@@ -16,7 +17,7 @@ use Rattle.batch_table.proofs.ByNumber.{cons_parts, cons_same, missing_below}
 
 -- ---- stages and marks
 
-formed_not_settled : (st : Stage) → is_formed st ≡ true → is_settled st ≡ false
+pub formed_not_settled : (st : Stage) → is_formed st ≡ true → is_settled st ≡ false
 formed_not_settled stages.Formed e = refl
 formed_not_settled stages.Committing e = refl
 formed_not_settled stages.Settled e = sym e
@@ -193,12 +194,8 @@ front_taken k base front bs e f q = front_taken_from k (base + 1) front bs e f q
 taken_is_gone : (k : ℕ) (b : Batch) → k ≤ b.bid → taken k b ≡ gone b
 taken_is_gone k b l = ap (λ v. record b { aborted = v }) (or_right b.aborted (nat_le k b.bid) (le-leb k b.bid l))
 
-or_false : (a c : Bool) → c ≡ false → (a || c) ≡ a
-or_false true c e = refl
-or_false false c e = e
-
 taken_stays : (k : ℕ) (b : Batch) → b.bid < k → taken k b ≡ b
-taken_stays k b l = ap (λ v. record b { aborted = v }) (or_false b.aborted (nat_le k b.bid) (lt-leb k b.bid l))
+taken_stays k b l = ap (λ v. record b { aborted = v }) (or_only b.aborted (nat_le k b.bid) (lt-leb k b.bid l))
 
 all_gone : (k low : ℕ) (bs : List Batch) → bids_of bs ≡ from low (length bs) → k ≤ low → map (taken k) bs ≡ map gone bs
 all_gone k low [] e l = refl

@@ -4,8 +4,7 @@ use Rattle.std.specs.List.{flat_map}
 use Rattle.std.proofs.Common.{◌≡◌, ℕ, zero, suc, ◌+◌, ◌==◌, Bool, true, false, not, ◌&&◌, ◌||◌, ◌≤◌, Option, Some, None, List, [], ◌∷◌, ◌++◌, length, take, refl, ap, sym, ◌∙◌, arith}
 use Rattle.std.proofs.lemmas.Bool.{eqb-true, eq-eqb, and_parts, and_from, cond-false, false≢true, le-leb}
 use Rattle.std.proofs.lemmas.Option.{slice_get_within}
-use Rattle.protocol.specs.Parts as stages
-use Rattle.protocol.specs.Parts.{Stage, Batch}
+use Rattle.protocol.specs.Parts.{Batch}
 use Rattle.protocol.specs.Words.{holds, is_committing, is_formed, is_settled, batch_of, is_open, is_next_to_commit}
 use Rattle.protocol.specs.Numbers.{from}
 use Rattle.batch_table.specs.Askings.{is_next, awaits_settling}
@@ -13,7 +12,7 @@ use Rattle.batch_table.specs.Joining.{bids_of}
 use Rattle.batch_table.specs.Listed.{unnoted_at, unnoted_in}
 use Rattle.batch_table.specs.Sound.{standings_of, IsFrontCount}
 use Rattle.batch_table.proofs.ByNumber.{cons_parts, found_at_place, is_place}
-use Rattle.batch_table.proofs.FrontOver.{next_at, next_is_front, settling_is_front}
+use Rattle.batch_table.proofs.FrontOver.{next_at, next_is_front, settling_is_front, formed_not_settled}
 
 one_bool : (b c : Bool) → (b ≡ true → c ≡ true) → (c ≡ true → b ≡ true) → b ≡ c
 one_bool true true f g = refl
@@ -91,11 +90,6 @@ over_not_open : (f a s : Bool) → (f ≡ true → s ≡ false) → (a || s) ≡
 over_not_open false a s n h = refl
 over_not_open true true s n h = refl
 over_not_open true false s n h = absurd (false≢true (sym (n refl) ∙ h))
-
-formed_not_settled : (st : Stage) → is_formed st ≡ true → is_settled st ≡ false
-formed_not_settled stages.Formed e = refl
-formed_not_settled stages.Committing e = refl
-formed_not_settled stages.Settled e = sym e
 
 pub front_within : (front : ℕ) (bs : List Batch) → IsFrontCount front (standings_of bs) → front ≤ length bs
 front_within zero bs f = omega arith

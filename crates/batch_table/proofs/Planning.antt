@@ -52,7 +52,7 @@ times_taken n zero xs = omega arith
 times_taken n (suc b) [] = omega arith
 times_taken n (suc b) (x ∷ xs) = omega (arith, count_head (λ y. y == n) x xs, count_head (λ y. y == n) x (take b xs), times_taken n b xs)
 
-times_in_flat : (n i : ℕ) (xss : List (List ℕ)) → times n (slice_index_or xss i []) ≤ times n (flat xss)
+pub times_in_flat : (n i : ℕ) (xss : List (List ℕ)) → times n (slice_index_or xss i []) ≤ times n (flat xss)
 times_in_flat n i [] = omega arith
 times_in_flat n zero (xs ∷ xss) = omega (arith, count_append (λ y. y == n) xs (flat xss))
 times_in_flat n (suc i) (xs ∷ xss) = omega (arith, count_append (λ y. y == n) xs (flat xss), times_in_flat n i xss)
@@ -62,7 +62,7 @@ at_most_one true = omega arith
 at_most_one false = omega arith
 
 -- who is in is in range
-in_range : (low high n : ℕ) → 1 ≤ once_in low high n → n < high
+pub in_range : (low high n : ℕ) → 1 ≤ once_in low high n → n < high
 in_range low high n h =
     cond_one (nat_le low n && nat_lt n high) h (λ e. ltb-true n high (and_parts (nat_le low n) (nat_lt n high) e).1)
   where

@@ -1,10 +1,9 @@
 -- What an ACT may still bring, as orders and votes tell it.
-use Rattle.std.proofs.Common.{◌≡◌, ℕ, ◌+◌, Bool, true, false, cond, eqb, Option, Some, None, is_some, List, [], ◌∷◌, map, refl, ap}
-use Rattle.std.specs.Prelude.{◌||◌}
+use Rattle.std.proofs.Common.{◌≡◌, ℕ, ◌+◌, Bool, false, cond, Option, Some, None, List, [], ◌∷◌, map, refl, ap}
 use Rattle.protocol.specs.BookParts.{act_by, joined_by, place_by, status_by, with_votes}
 use Rattle.protocol.specs.Left.{act_left, joined_left, status_left, total, unless}
 use Rattle.protocol.specs.Parts.{Joined, Status, Live, Doomed, Decided, Sealed, Act}
-use Rattle.protocol.specs.Words.{act_of, holds, is_among, is_decided, is_live_status, is_ordered, is_sealed, joined_of}
+use Rattle.protocol.specs.Words.{act_of, holds, is_decided, is_live_status, is_ordered, is_sealed, joined_of}
 use Rattle.order_book.specs.Kept.{Kept, seen}
 use Rattle.book_part.specs.Told.{left_told}
 
@@ -46,13 +45,3 @@ place_told (Some y) p a b = by_joined (joined_of p.actor y) p a b
 pub acts_told : (votes : List Act) (epoch : ℕ) (ks : List Kept) → total act_left (with_votes votes (map (seen epoch) ks)) ≡ total (λ k. act_left (act_by (act_of k.act.tid votes) k.act)) ks
 acts_told votes epoch [] = refl
 acts_told votes epoch (k ∷ ks) = ap (λ n. act_left (act_by (act_of k.act.tid votes) k.act) + n) (acts_told votes epoch ks)
-
--- ---- who is one
-
-pub is_act_among : (t : ℕ) (acts : List Act) → is_some (act_of t acts) ≡ is_among t (map (λ x. x.tid) acts)
-is_act_among t [] = refl
-is_act_among t (x ∷ xs) = by (eqb x.tid t) (is_act_among t xs)
-  where
-    by : (b : Bool) → is_some (act_of t xs) ≡ is_among t (map (λ x. x.tid) xs) → is_some (cond b (Some x) (act_of t xs)) ≡ (b || is_among t (map (λ x. x.tid) xs))
-    by true rest = refl
-    by false rest = rest

@@ -1,28 +1,14 @@
 -- Lists: one of them, what holds of each, and numbers that ascend.
-use Rattle.std.proofs.Common.{◌≡◌, ℕ, zero, suc, ◌+◌, ◌<◌, ◌≤◌, ◌==◌, Bool, true, false, Option, Some, None, List, [], ◌∷◌, ◌++◌, length, map, refl, ap, sym, ◌∙◌, subst, arith}
+use Rattle.std.proofs.Common.{◌≡◌, ℕ, zero, suc, ◌+◌, ◌<◌, ◌≤◌, Bool, true, false, Option, Some, None, List, [], ◌∷◌, ◌++◌, length, map, refl, ap, sym, ◌∙◌, subst, arith}
 use Rattle.std.specs.Prelude.{filter, find, slice_get, slice_index_or, if◌then◌else◌}
 use Rattle.std.specs.List.{All, AllByRecursion}
 use Rattle.std.proofs.lemmas.Bool.{true≢false}
+pub use Rattle.snap_base.proofs.Lists.{all_found}
 use Rattle.protocol.specs.Words.{below, holds, is_empty}
-use Rattle.protocol.specs.Numbers.{times, one_if}
+pub use Rattle.protocol_laws.proofs.machine.TracksKept.{in_range}
 use Rattle.txn_records.specs.Records.{Ascend}
 
 -- ---- counts
-
-pub times_cons : (n x : ℕ) (xs : List ℕ) → times n (x ∷ xs) ≡ one_if (x == n) + times n xs
-times_cons n x xs = by (x == n)
-  where
-    by : (b : Bool) → length (if b then x ∷ filter (λ y. y == n) xs else filter (λ y. y == n) xs) ≡ one_if b + length (filter (λ y. y == n) xs)
-    by true = omega arith
-    by false = omega arith
-
-pub times_join : (n : ℕ) (xs ys : List ℕ) → times n (xs ++ ys) ≡ times n xs + times n ys
-times_join n [] ys = omega arith
-times_join n (x ∷ xs) ys = omega (arith, times_cons n x xs, times_cons n x (xs ++ ys), times_join n xs ys)
-
-pub map_join : {X Y : Type 0} (f : X → Y) (xs ys : List X) → map f (xs ++ ys) ≡ map f xs ++ map f ys
-map_join f [] ys = refl
-map_join f (x ∷ xs) ys = ap (λ z. f x ∷ z) (map_join f xs ys)
 
 pub length_mapped : {X Y : Type 0} (f : X → Y) (xs : List X) → length (map f xs) ≡ length xs
 length_mapped f [] = refl
@@ -38,23 +24,10 @@ found_nowhere p (x ∷ xs) ys e f = by (p x) e (found_nowhere p xs ys)
     by true e r = absurd (cc e)
     by false e r = r e f
 
-pub none_passes : {X : Type 0} (p : X → Bool) (xs : List X) → AllByRecursion (λ x. p x ≡ false) xs → find p xs ≡ None
-none_passes p [] h = refl
-none_passes p (x ∷ xs) h = by (p x) h.0 (none_passes p xs h.1)
-  where
-    by : (b : Bool) → b ≡ false → find p xs ≡ None → (if b then Some x else find p xs) ≡ None
-    by true e r = absurd (true≢false e)
-    by false e r = r
-
 -- one that passes a test, where something does
 pub one_is : {X : Type 0} (p : X → Bool) (o : Option X) → holds p o ≡ true → (x : X) × ((o ≡ Some x) × (p x ≡ true))
 one_is p None e = absurd (true≢false (sym e))
 one_is p (Some x) e = (x, (refl, e))
-
-pub in_range : {X : Type 0} (p : X → Bool) (xs : List X) (i : ℕ) → holds p (slice_get xs i) ≡ true → i < length xs
-in_range p [] i h = absurd (true≢false (sym h))
-in_range p (x ∷ xs) zero h = omega arith
-in_range p (x ∷ xs) (suc i) h = omega (arith, in_range p xs i h)
 
 pub at_index : {X : Type 0} (p : X → Bool) (xs : List X) (i : ℕ) (d : X) → holds p (slice_get xs i) ≡ true → p (slice_index_or xs i d) ≡ true
 at_index p [] i d h = absurd (true≢false (sym h))
@@ -62,14 +35,6 @@ at_index p (x ∷ xs) zero d h = h
 at_index p (x ∷ xs) (suc i) d h = at_index p xs i d h
 
 -- ---- what holds of each
-
-pub all_found : {X : Type 0} (P : X → Type 0) (p : X → Bool) (xs : List X) (x : X) → AllByRecursion P xs → find p xs ≡ Some x → P x × (p x ≡ true)
-all_found P p [] x h e = absurd (cc e)
-all_found P p (y ∷ ys) x h e = by (p y) refl e (all_found P p ys x h.1)
-  where
-    by : (b : Bool) → p y ≡ b → (if b then Some y else find p ys) ≡ Some x → (find p ys ≡ Some x → P x × (p x ≡ true)) → P x × (p x ≡ true)
-    by true q e k = let i : y ≡ x = cc e in subst (λ z. P z × (p z ≡ true)) i (h.0, q)
-    by false q e k = k e
 
 pub all_at : {X : Type 0} (P : X → Type 0) (xs : List X) (i : ℕ) (d : X) → P d → AllByRecursion P xs → P (slice_index_or xs i d)
 all_at P [] i d p h = p
@@ -83,10 +48,6 @@ all_middle P x (y ∷ front) rest h = let k = all_middle P x front rest h.1 in (
 pub all_mapped : {X Y : Type 0} (P : Y → Type 0) (f : X → Y) (xs : List X) → ((x : X) → P (f x)) → AllByRecursion P (map f xs)
 all_mapped P f [] h = tt
 all_mapped P f (x ∷ xs) h = (h x, all_mapped P f xs h)
-
-pub weaker : {X : Type 0} (P Q : X → Type 0) (xs : List X) → ((x : X) → P x → Q x) → AllByRecursion P xs → AllByRecursion Q xs
-weaker P Q [] k h = tt
-weaker P Q (x ∷ xs) k h = (k x h.0, weaker P Q xs k h.1)
 
 -- what holds of each element of the images holds of each that they are of, at its place
 pub all_indexed : {X Y : Type 0} (P : Y → Type 0) (Q : X → Type 0) (f : X → Y) (xs : List X) → ((x : X) → P (f x) → Q x) → AllByRecursion P (map f xs) → All Q xs

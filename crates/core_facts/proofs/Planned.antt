@@ -1,7 +1,9 @@
 -- The batch that is planned: its tids follow one another, and each of its messages is new.
 use Rattle.std.proofs.Common.{◌≡◌, ℕ, zero, suc, ◌+◌, ◌<◌, ◌≤◌, ◌==◌, ◌&&◌, not, Bool, true, false, None, List, [], ◌∷◌, ◌++◌, length, map, take, refl, ap, sym, ◌∙◌, subst, arith}
 use Rattle.std.specs.List.{AllByRecursion}
-use Rattle.std.proofs.lemmas.Bool.{eq-eqb, ne_eqb, true≢false}
+use Rattle.std.proofs.lemmas.Bool.{eq-eqb, ne_eqb, and_right}
+use Rattle.std.proofs.lemmas.List.{map-append}
+use Rattle.snap_base.proofs.Lists.{none_passes}
 use Rattle.protocol.specs.Fixed.{Fixed, Text}
 use Rattle.protocol.specs.Parts.{Ring, Pact, SubBatch, Who, OfBatch, Machine}
 use Rattle.protocol.specs.Words.{is_empty, sub_of, control_of}
@@ -9,8 +11,10 @@ use Rattle.protocol.specs.Numbers.{times, one_if}
 use Rattle.protocol.specs.Conditions.{queue}
 use Rattle.protocol.specs.OnRing.{numbered, next_pacts, next_actors, first_sub, planned}
 use Rattle.protocol.specs.OnPost.{first_control}
+use Rattle.protocol_laws.proofs.first.Times.{times_cons, times_append}
+use Rattle.protocol_theorems.proofs.quiet.LeftRing.{some_taken}
 use Rattle.txn_records.specs.Records.{Ascend}
-use Rattle.core_facts.proofs.Listed.{times_cons, times_join, map_join, found_nowhere, none_passes, all_middle, all_mapped}
+use Rattle.core_facts.proofs.Listed.{found_nowhere, all_middle, all_mapped}
 
 -- ---- tids
 
@@ -23,16 +27,11 @@ take_most zero ns = omega arith
 take_most (suc few) [] = omega arith
 take_most (suc few) (n ∷ ns) = omega (arith, take_most few ns)
 
-take_some : (few : ℕ) (ns : List ℕ) → 1 ≤ few → not (is_empty ns) ≡ true → 1 ≤ length (take few ns)
-take_some zero ns l e = absurd (omega (arith, l))
-take_some (suc few) [] l e = absurd (true≢false (sym e))
-take_some (suc few) (n ∷ ns) l e = omega arith
-
 pub few_pacts : (w : Text) (r : Ring) → length (next_pacts w r) ≤ w.batch
 few_pacts w r = omega (arith, numbered_length r.next_tid (take w.batch (queue r.pacts r.holder)), take_most w.batch (queue r.pacts r.holder))
 
 pub some_pacts : (w : Text) (r : Ring) → 1 ≤ w.batch → not (is_empty (queue r.pacts r.holder)) ≡ true → 1 ≤ length (next_pacts w r)
-some_pacts w r l e = omega (arith, numbered_length r.next_tid (take w.batch (queue r.pacts r.holder)), take_some w.batch (queue r.pacts r.holder) l e)
+some_pacts w r l e = omega (arith, numbered_length r.next_tid (take w.batch (queue r.pacts r.holder)), some_taken w.batch (queue r.pacts r.holder) l e)
 
 pub numbered_ascend : (t limit : ℕ) (ns : List ℕ) → t + length ns ≤ limit → Ascend t limit (map (λ p. p.tid) (numbered t ns))
 numbered_ascend t limit [] l = tt
@@ -75,13 +74,9 @@ told_actors : (w : Text) (k : ℕ) (r : Ring) (xs : List ℕ) → map (λ m. m.a
 told_actors w k r [] = refl
 told_actors w k r (a ∷ xs) = ap (λ z. a ∷ z) (told_actors w k r xs)
 
-not_and : (a b : Bool) → b ≡ false → (a && b) ≡ false
-not_and true b e = e
-not_and false b e = refl
-
 none_to : (k a : ℕ) (subs : List SubBatch) → times a (map (λ m. m.actor) subs) ≡ 0 → AllByRecursion (λ m. ((m.bid == k) && (m.actor == a)) ≡ false) subs
 none_to k a [] h = tt
-none_to k a (m ∷ ms) h = (not_and (m.bid == k) (m.actor == a) (by (m.actor == a) (times_cons a m.actor (map (λ m. m.actor) ms))), none_to k a ms (omega (arith, h, times_cons a m.actor (map (λ m. m.actor) ms))))
+none_to k a (m ∷ ms) h = (and_right (m.bid == k) (m.actor == a) (by (m.actor == a) (times_cons a m.actor (map (λ m. m.actor) ms))), none_to k a ms (omega (arith, h, times_cons a m.actor (map (λ m. m.actor) ms))))
   where
     by : (b : Bool) → times a (m.actor ∷ map (λ m. m.actor) ms) ≡ one_if b + times a (map (λ m. m.actor) ms) → b ≡ false
     by true e = absurd (omega (arith, h, e))
@@ -91,12 +86,12 @@ pub sub_is_new : {C : Type 0} (w : Fixed C) (k : ℕ) (s : Machine C) → ((a : 
     → (front rest : List SubBatch) (m : SubBatch) → (planned w.text k s.ring).subs ≡ front ++ m ∷ rest → sub_of m.bid m.actor (s.post.subs ++ front) ≡ None
 sub_is_new w k s new once front rest m e =
     let its = all_middle (λ m. m.bid ≡ k) m front rest (subst (AllByRecursion (λ m. m.bid ≡ k)) e (all_mapped (λ m. m.bid ≡ k) (first_sub w.text k s.ring) (next_actors w.text s.ring) (λ a. refl))) in
-    let actors : next_actors w.text s.ring ≡ map (λ m. m.actor) front ++ m.actor ∷ map (λ m. m.actor) rest = sym (told_actors w.text k s.ring (next_actors w.text s.ring)) ∙ (ap (map (λ m. m.actor)) e ∙ map_join (λ m. m.actor) front (m ∷ rest)) in
+    let actors : next_actors w.text s.ring ≡ map (λ m. m.actor) front ++ m.actor ∷ map (λ m. m.actor) rest = sym (told_actors w.text k s.ring (next_actors w.text s.ring)) ∙ (ap (map (λ m. m.actor)) e ∙ map-append (λ m. m.actor) front (m ∷ rest)) in
     let none : times m.actor (map (λ m. m.actor) front) ≡ 0 = omega (
       arith,
       once m.actor,
       ap (times m.actor) actors,
-      times_join m.actor (map (λ m. m.actor) front) (m.actor ∷ map (λ m. m.actor) rest),
+      times_append m.actor (map (λ m. m.actor) front) (m.actor ∷ map (λ m. m.actor) rest),
       times_cons m.actor m.actor (map (λ m. m.actor) rest),
       ap one_if (eq-eqb m.actor m.actor refl),
     ) in

@@ -5,8 +5,8 @@ use Rattle.std.specs.List.{AllByRecursion}
 use Rattle.std.proofs.lemmas.Bool.{eq-eqb, leb-true, leb-false, cases_lt}
 use Rattle.protocol.specs.Effects.{put_in, ascending}
 use Rattle.protocol.specs.Numbers.{times, one_if}
+use Rattle.protocol_laws.proofs.first.Times.{times_cons}
 use Rattle.txn_records.specs.Records.{Ascend}
-use Rattle.core_facts.proofs.Listed.{times_cons}
 
 times_put : (m n : ℕ) (xs : List ℕ) → times m (put_in n xs) ≡ one_if (n == m) + times m xs
 times_put m n [] = times_cons m n []

@@ -10,7 +10,7 @@ use Rattle.snap_base.specs.declared.ids.Tid.{Tid}
 use Rattle.snap_base.specs.declared.transactions.State.{State}
 use Rattle.protocol.specs.Facts.{Alone}
 use Rattle.protocol.specs.Fixed.{Fixed, IsText}
-use Rattle.protocol.specs.Parts.{Act, Joined, Batch, Book, Cascade, Entry, BatchEntry, ActEntry, Image, Machine}
+use Rattle.protocol.specs.Parts.{Act, Joined, Batch, Book, Cascade, Entry, Image, Machine}
 use Rattle.protocol.specs.Events.{Pass, Form, Admit, Send, Complete, Commit, Abort, Prepare, Decide}
 use Rattle.protocol.specs.Words.{is_empty, value_of, values_of, holds, act_of, joined_of, is_live_status, batch_of, is_open, is_next_to_commit, is_batch_entry, is_complete_batch, batches_on, acts_on}
 use Rattle.protocol.specs.Conditions.{IsAllowed, conditions, queue}
@@ -27,6 +27,7 @@ use Rattle.protocol_theorems.specs.Bounds.{BatchesHaveActors, BoxesAreFew, Place
 use Rattle.protocol_theorems.specs.OnActors.{AllLieInOrder, LimitsHold}
 use Rattle.protocol_records.specs.RecordLaws.{RecordsAreFew}
 use Rattle.protocol_laws.specs.Ranges.{NumbersInRange, CellInRange, IsDrawnBid}
+use Rattle.protocol_laws.proofs.first.Candidates.{on_schedule}
 use Rattle.protocol_theorems.specs.Sizes.{SizesHold, AllFindRoom}
 use Rattle.batch_table.specs.Laws.{PlannedMayJoin}
 use Rattle.actor_cell.specs.Cut.{HaveRunInOrder}
@@ -101,15 +102,6 @@ few_entries w s a t b x = omega (arith, Cutting.two_kinds (cell_at s a).entries,
 
 -- ---- the records
 
-drawn_on : (P : ℕ → Type 0) (k : ℕ) (es : List Entry) (e : Entry) → find (is_batch_entry k) es ≡ Some e → AllByRecursion P (batches_on es) → P k
-drawn_on P k [] e q h = absurd (cc q)
-drawn_on P k (BatchEntry b ∷ es) e q h = by (b.bid == k) refl q (drawn_on P k es e)
-  where
-    by : (v : Bool) → (b.bid == k) ≡ v → Rattle.std.specs.Prelude.cond v (Some (BatchEntry b)) (find (is_batch_entry k) es) ≡ Some e → (find (is_batch_entry k) es ≡ Some e → AllByRecursion P (batches_on es) → P k) → P k
-    by true i q r = subst P (eqb-true b.bid k i) h.0
-    by false i q r = r q h.1
-drawn_on P k (ActEntry x ∷ es) e q h = drawn_on P k es e q h
-
 bid_drawn : {C : Type 0} (w : Fixed C) (s : Machine C) (k : ℕ) (p : Batch → Bool) → NumbersInRange w s → holds p (batch_of k s.desk.batches) ≡ true → k < s.ring.next_bid
 bid_drawn w s k p r ok =
     let b = Listed.one_is p (batch_of k s.desk.batches) ok in
@@ -122,7 +114,7 @@ complete_drawn {C} w s k a r ok =
     let here = Listed.at_index (λ c. holds (λ e. not (is_complete_batch e)) (find (is_batch_entry k) c.entries)) s.cells a (no_cell {C = C}) ok.0 in
     let e = Listed.one_is (λ e. not (is_complete_batch e)) (find (is_batch_entry k) (cell_at s a).entries) here in
     let cell : CellInRange w s (cell_at s a) = Listed.all_at (CellInRange w s) s.cells a no_cell (record { inbox = tt; outbox = tt; batches = tt }) r.cells in (
-      (drawn_on (IsDrawnBid w s) k (cell_at s a).entries e.0 e.1.0 cell.batches).below,
+      (on_schedule (IsDrawnBid w s) k (cell_at s a).entries e.0 e.1.0 cell.batches).below,
       Listed.in_range (λ c. holds (λ e. not (is_complete_batch e)) (find (is_batch_entry k) c.entries)) s.cells a ok.0,
     )
 

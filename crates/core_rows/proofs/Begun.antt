@@ -11,6 +11,7 @@ use Rattle.protocol.specs.Words.{control_of}
 use Rattle.protocol.specs.OnPost.{first_control}
 use Rattle.core_rows.specs.Begun.{ControlsAreNew}
 use Rattle.std.proofs.lemmas.Grind.{take_at_read}
+use Rattle.std.proofs.lemmas.List.{map-append}
 
 -- a mapped list that is split is of a list that is split
 record Split {X Y : Type 0} (f : X → Y) (xs : List X) (front : List Y) (m : Y) : Type 0 where
@@ -60,26 +61,18 @@ message_is w who t n x k e is =
 
 -- ---- one message more
 
-pub joined_map : {X Y : Type 0} (f : X → Y) (xs ys : List X) → map f (xs ++ ys) ≡ map f xs ++ map f ys
-joined_map f [] ys = refl
-joined_map f (x ∷ xs) ys = ap (λ z. f x ∷ z) (joined_map f xs ys)
-
 pub one_more : {X Y : Type 0} (f : X → Y) (there : List Y) (done : List X) (x : X) → (there ++ map f done) ++ f x ∷ [] ≡ there ++ map f (done ++ x ∷ [])
-one_more f there done x = append_assoc there (map f done) (f x ∷ []) ∙ ap (λ z. there ++ z) (sym (joined_map f done (x ∷ [])))
+one_more f there done x = append_assoc there (map f done) (f x ∷ []) ∙ ap (λ z. there ++ z) (sym (map-append f done (x ∷ [])))
 
 pub middle : {X Y : Type 0} (f : X → Y) (xs done rest : List X) (x : X) → xs ≡ done ++ x ∷ rest → map f xs ≡ map f done ++ f x ∷ map f rest
-middle f xs done rest x e = ap (map f) e ∙ joined_map f done (x ∷ rest)
-
-pub nothing_left : {X : Type 0} (xs : List X) → length xs ≡ 0 → xs ≡ []
-nothing_left [] h = refl
-nothing_left (x ∷ xs) h = absurd (omega (arith, h))
+middle f xs done rest x e = ap (map f) e ∙ map-append f done (x ∷ rest)
 
 -- one more of the PACTs, at this index
 pub grown : {X Y Z W : Type 0} (f : X → Z) (b : Y → W) (h : W → Z) (done : List X) (x : X) (ys : List Y) (i : ℕ) (d : Y) → i < length ys → map f done ≡ map h (map b (take i ys)) → f x ≡ h (b (get_or ys i d)) → map f (done ++ x ∷ []) ≡ map h (map b (take (i + 1) ys))
 grown f b h done x ys i d inside so_far here =
-    joined_map f done (x ∷ [])
+    map-append f done (x ∷ [])
     ∙ (ap (λ z. z ++ f x ∷ []) so_far
     ∙ (ap (λ z. map h (map b (take i ys)) ++ z ∷ []) here
-    ∙ (sym (joined_map h (map b (take i ys)) (b (get_or ys i d) ∷ []))
-    ∙ (ap (map h) (sym (joined_map b (take i ys) (get_or ys i d ∷ [])))
+    ∙ (sym (map-append h (map b (take i ys)) (b (get_or ys i d) ∷ []))
+    ∙ (ap (map h) (sym (map-append b (take i ys) (get_or ys i d ∷ [])))
     ∙ ap (λ z. map h (map b z)) (sym (take_at_read ys i d inside).1)))))

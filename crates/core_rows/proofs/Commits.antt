@@ -1,6 +1,5 @@
 -- The commit record of an ACT that is decided: it can be spelled, and it is the machine's.
-use Rattle.std.proofs.Common.{◌≡◌, ◌==◌, ℕ, ℤ, FitsSigned, ◌^◌, Bool, true, false, if◌then◌else◌, Option, Some, None, List, [], ◌∷◌, length, map, refl, ap, sym, subst, ◌∙◌, arith}
-use Rattle.std.proofs.lemmas.Bool.{eqb-true}
+use Rattle.std.proofs.Common.{◌≡◌, ℕ, ℤ, FitsSigned, ◌^◌, Bool, true, false, if◌then◌else◌, Option, Some, None, List, [], ◌∷◌, length, map, refl, ap, sym, subst, ◌∙◌, arith}
 use Rattle.std.proofs.lemmas.List.{append-nil, length-map}
 use Rattle.snap_base.specs.declared.ids.ActorId.{ActorId}
 use Rattle.snap_base.specs.declared.ids.Bid.{Bid}
@@ -9,7 +8,7 @@ use Rattle.std.specs.Int.{w64}
 use Rattle.protocol.specs.Effects.{act_commit, added, ascending}
 use Rattle.protocol.specs.Parts.{Act, Log}
 use Rattle.protocol.specs.Records.{ActDone}
-use Rattle.protocol.specs.Words.{act_of, is_value, value_of}
+use Rattle.protocol.specs.Words.{is_value, value_of}
 use Rattle.book_part.specs.Commits.{records_of}
 use Rattle.book_part.specs.declared.commit.Commit.{Commit}
 use Rattle.core_facts.specs.RowsMay.{IsActRecord}
@@ -19,15 +18,6 @@ use Rattle.txn_records.specs.declared.records.Record.TheVariants as records
 use Rattle.core_rows.specs.Commits.{HasSpelling}
 
 -- ---- it can be spelled
-
--- an ACT is found by its number
-pub act_number : (t : ℕ) (acts : List Act) (x : Act) → act_of t acts ≡ Some x → x.tid ≡ t
-act_number t [] x e = absurd (cc e)
-act_number t (y ∷ ys) x e = by (y.tid == t) refl e (act_number t ys x)
-  where
-    by : (b : Bool) → (y.tid == t) ≡ b → (if b then Some y else act_of t ys) ≡ Some x → (act_of t ys ≡ Some x → x.tid ≡ t) → x.tid ≡ t
-    by true q e k = let same : y ≡ x = cc e in subst (λ z. z.tid ≡ t) same (eqb-true y.tid t q)
-    by false q e k = k e
 
 -- the numbers of the record are those of the ACT
 is_act : (c : Commit) (t m n : ℕ) (actors : List ℕ) → c.tid.0 ≡ t → c.before.0 ≡ m → c.number ≡ n → actor_numbers c.actors ≡ actors → IsActRecord t m n actors → IsAct c.tid c.before c.number c.actors

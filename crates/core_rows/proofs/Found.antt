@@ -1,5 +1,5 @@
 -- What a condition that holds has found.
-use Rattle.std.proofs.Common.{◌≡◌, Bool, true, false, ◌&&◌, Option, Some, None, is_some, refl, ap, ◌∙◌}
+use Rattle.std.proofs.Common.{◌≡◌, Bool, true, false, Option, Some, None, is_some, refl, ap, ◌∙◌}
 use Rattle.std.specs.Option.{option_map}
 use Rattle.protocol.specs.Words.{holds}
 
@@ -32,26 +32,10 @@ pub nothing_told : {X Y : Type 0} (test : X → Bool) (h : Y → X) (o : Option 
 nothing_told test h None same = refl
 nothing_told test h (Some y) same = let e : None ≡ Some (h y) = same in absurd (cc e)
 
-pub mapped_some : {X Y : Type 0} (f : X → Y) (o : Option X) (y : Y) → option_map f o ≡ Some y → (x : X) × ((o ≡ Some x) × (f x ≡ y))
-mapped_some f None y same = absurd (cc same)
-mapped_some f (Some x) y same = (x, (refl, cc same))
-
-pub both : (a b : Bool) → a ≡ true → b ≡ true → (a && b) ≡ true
-both true b p q = q
-both false b p q = absurd (cc p)
-
-pub second : (a b : Bool) → (a && b) ≡ true → b ≡ true
-second true b p = p
-second false b p = absurd (cc p)
-
 -- a test that nothing meets
 pub never : {X : Type 0} (test : X → Bool) (o : Option X) → ((x : X) → test x ≡ false) → holds test o ≡ false
 never test None h = refl
 never test (Some x) h = h x
-
-pub not_both : (a b : Bool) → b ≡ false → (a && b) ≡ false
-not_both true b h = h
-not_both false b h = refl
 
 -- it is there where what stands for it is
 pub is_some_where_told : {X Y : Type 0} (f : X → Y) (r : Option X) (o : Option Y) → option_map f r ≡ o → is_some o ≡ true → is_some r ≡ true

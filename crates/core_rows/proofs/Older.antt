@@ -1,5 +1,5 @@
 -- An ACT that asks, and the cell that it asks.
-use Rattle.std.proofs.Common.{◌≡◌, ℕ, true, false, Option, Some, None, is_some, List, [], ◌∷◌, map, refl, ap, sym, ◌∙◌}
+use Rattle.std.proofs.Common.{◌≡◌, ℕ, false, List, [], ◌∷◌, map, refl, ap, sym, ◌∙◌}
 use Rattle.snap_base.specs.declared.ids.Tid.{Tid}
 use Rattle.protocol.specs.Meant.{tid_number}
 use Rattle.order_book.specs.Asked.{AreLocksOf, locks_of}
@@ -23,11 +23,3 @@ tids_back (n ∷ ns) = ap (λ (xs : List ℕ). n ∷ xs) (tids_back ns)
 -- as of ACTs that write
 pub same_tids : (tids : List Tid) → AreLocksOf tids (locks_of tids)
 same_tids tids = tids_back (map tid_number tids)
-
-pub nobody : {X : Type 0} (o : Option X) → is_some o ≡ false → o ≡ None
-nobody None h = refl
-nobody (Some x) h = absurd (cc h)
-
-pub somebody : {X : Type 0} (o : Option X) → is_some o ≡ true → (x : X) × (o ≡ Some x)
-somebody None h = absurd (cc h)
-somebody (Some x) h = (x, refl)

@@ -1,7 +1,7 @@
 -- Who waits first at a coordinator is a transaction that was submitted, and begins with the next tid.
-use Rattle.std.proofs.Common.{◌≡◌, ℕ, zero, suc, ◌+◌, ◌<◌, ◌≤◌, ◌==◌, Bool, true, false, not, ◌&&◌, Option, Some, None, List, [], ◌∷◌, ◌++◌, length, refl, ap, sym, subst, ◌∙◌, arith}
-use Rattle.std.specs.Prelude.{filter, map, nat_lt, nat_le, slice_index_or, if◌then◌else◌}
-use Rattle.std.proofs.lemmas.Bool.{eq-eqb, eqb-true, false≢true, ltb-true, and_parts}
+use Rattle.std.proofs.Common.{◌≡◌, ℕ, ◌<◌, ◌≤◌, Bool, true, not, Option, Some, None, List, [], ◌∷◌, ◌++◌, length, refl, ap, sym, subst, ◌∙◌, arith}
+use Rattle.std.specs.Prelude.{map, slice_index_or}
+use Rattle.std.proofs.lemmas.Bool.{eq-eqb, eqb-true, false≢true}
 use Rattle.std.specs.Option.{OnSome}
 use Rattle.snap_base.specs.declared.ids.Tid.{Tid}
 use Rattle.snap_base.specs.declared.ids.TxNo.{TxNo}
@@ -11,39 +11,17 @@ use Rattle.protocol.specs.Parts.{Ring, Machine}
 use Rattle.protocol.specs.Events.{Admit}
 use Rattle.protocol.specs.Words.{is_empty}
 use Rattle.protocol.specs.Conditions.{IsAllowed, conditions, queue}
-use Rattle.protocol.specs.Numbers.{flat, times, one_if, once_in, TransactionsInOnePlace}
+use Rattle.protocol.specs.Numbers.{flat, times, one_if, TransactionsInOnePlace}
 use Rattle.protocol.specs.OnBook.{act_admitted}
 use Rattle.protocol.specs.OnPost.{next_act}
+use Rattle.protocol_laws.proofs.first.Times.{times_cons, times_append}
 use Rattle.protocol_theorems.specs.Sizes.{SizesHold}
 use Rattle.token_ring.specs.Asked as asked
-
-times_head : (n x : ℕ) (xs : List ℕ) → times n (x ∷ xs) ≡ one_if (x == n) + times n xs
-times_head n x xs = by (x == n)
-  where
-    by : (b : Bool) → length (if b then x ∷ filter (λ y. y == n) xs else filter (λ y. y == n) xs) ≡ one_if b + length (filter (λ y. y == n) xs)
-    by true = omega arith
-    by false = omega arith
-
-times_join : (n : ℕ) (xs ys : List ℕ) → times n (xs ++ ys) ≡ times n xs + times n ys
-times_join n [] ys = omega arith
-times_join n (x ∷ xs) ys = omega (arith, times_head n x xs, times_head n x (xs ++ ys), times_join n xs ys)
+use Rattle.batch_table.proofs.Planning.{times_in_flat, in_range}
 
 first_is_in : (xs : List ℕ) → not (is_empty xs) ≡ true → 1 ≤ times (slice_index_or xs 0 0) xs
 first_is_in [] e = absurd (false≢true e)
-first_is_in (x ∷ xs) e = omega (arith, times_head x x xs, ap one_if (eq-eqb x x refl))
-
-times_in_flat : (n i : ℕ) (xss : List (List ℕ)) → times n (slice_index_or xss i []) ≤ times n (flat xss)
-times_in_flat n i [] = omega arith
-times_in_flat n zero (xs ∷ xss) = omega (arith, times_join n xs (flat xss))
-times_in_flat n (suc i) (xs ∷ xss) = omega (arith, times_join n xs (flat xss), times_in_flat n i xss)
-
-in_range : (low high n : ℕ) → 1 ≤ once_in low high n → n < high
-in_range low high n h =
-    cond_one (nat_le low n && nat_lt n high) h (λ e. ltb-true n high (and_parts (nat_le low n) (nat_lt n high) e).1)
-  where
-    cond_one : (c : Bool) → 1 ≤ one_if c → (c ≡ true → n < high) → n < high
-    cond_one true h f = f refl
-    cond_one false h f = absurd (omega arith)
+first_is_in (x ∷ xs) e = omega (arith, times_cons x x xs, ap one_if (eq-eqb x x refl))
 
 pub next_act_is_of_text : {C : Type 0} (w : Fixed C) (s : Machine C) (t : ℕ) → SizesHold w s → TransactionsInOnePlace w s → IsAllowed w (Admit t) s → next_act s.ring < length w.text.txs
 unfolding conditions
@@ -52,8 +30,8 @@ next_act_is_of_text w s t sizes placed ok =
     let others = flat (map (λ b. map (λ p. p.tx) b.pacts) s.desk.batches) ++ map (λ x. x.tx) s.book.acts in
     let here = first_is_in (queue s.ring.acts s.ring.holder) ok.1.0 in
     let queued = times_in_flat n s.ring.holder s.ring.acts in
-    let waiting = times_join n (flat s.ring.pacts) (flat s.ring.acts) in
-    let all = times_join n (flat s.ring.pacts ++ flat s.ring.acts) others in
+    let waiting = times_append n (flat s.ring.pacts) (flat s.ring.acts) in
+    let all = times_append n (flat s.ring.pacts ++ flat s.ring.acts) others in
     omega (arith, in_range 0 s.ring.next_tx n (omega (arith, here, queued, waiting, all, placed n)), sizes.next_tx)
 
 -- the ring tells it with its tid

@@ -2,11 +2,12 @@
 use Rattle.std.proofs.Common.{◌≡◌, ℕ, ◌+◌, ◌<◌, IsSome, Option, Some, None, List, length, slice_get, refl, sym, ap, subst, ◌∙◌, arith}
 use Rattle.std.proofs.lemmas.List.{length-map}
 use Rattle.std.proofs.lemmas.Option.{slice_get-get_or}
+use Rattle.snap_base.proofs.Lists.{one_at, get_mapped}
 use Rattle.aml_slice.specs.Controls.{Rest}
 use Rattle.core_rows.specs.OnRuns.{HasRun}
 use Rattle.crew_ends.specs.Ends.{AreBeside, AreDriven, AreDue, IsSomeEnd, log_at}
 use Rattle.crew_ends.specs.Lists.{HaveJournals, HaveOutput, besides_of, parts_of}
-use Rattle.crew_ends.proofs.OneOver.{mapped_at, mapped_from, one_at}
+use Rattle.crew_ends.proofs.OneOver.{mapped_from}
 use Rattle.crew_parts.specs.Crews.{Begins, HasCome, IsStillDue, JournalIs, OutputIs}
 use Rattle.crew_parts.specs.Shares.{BesideState, OutputState, ShareState}
 use Rattle.gate_log.specs.State.{LogState}
@@ -36,7 +37,7 @@ shares_begin w xs ps same parts =
       at_part : (i : ℕ) (x : ShareState) → slice_get xs i ≡ Some x → slice_get (parts_of xs) i ≡ Some x.part
       at_part i x at = one xs i x at where
         one : (ys : List ShareState) (j : ℕ) (y : ShareState) → slice_get ys j ≡ Some y → slice_get (parts_of ys) j ≡ Some y.part
-        one ys j y h = mapped_at (λ (z : ShareState). z.part) ys j y h
+        one ys j y h = get_mapped (λ (z : ShareState). z.part) ys j y h
 
 -- ---- what stands beside them
 

@@ -1,27 +1,17 @@
 -- Parts that become shares, from the last one on.
 use Rattle.std.proofs.Common.{◌≡◌, ℕ, suc, ◌+◌, ◌<◌, option_map, Option, Some, None, List, [], ◌∷◌, ◌++◌, length, map, replicate, reverse, slice_get, refl, sym, ap, subst, ◌∙◌, arith, add-one, append_assoc, append-nil}
-use Rattle.std.specs.List.{AllByRecursion}
 use Rattle.std.proofs.lemmas.List.{map-append}
 use Rattle.std.proofs.lemmas.Option.{slice_get-map}
+use Rattle.snap_base.proofs.Lists.{get_mapped, nothing_left}
 use Rattle.crew_ends.specs.Ends.{AreBeside}
 use Rattle.crew_ends.specs.Lists.{besides_of, laid, parts_of}
-use Rattle.crew_ends.proofs.OneOver.{get_front, mapped_at, none_in}
+use Rattle.crew_ends.proofs.OneOver.{get_front}
 use Rattle.crew_parts.specs.Besides.{beside_desk, beside_log, beside_none}
 use Rattle.crew_parts.specs.Shares.{BesideState, OutputState, ShareState}
 use Rattle.gate_log.specs.State.{LogState}
 use Rattle.protocol.specs.Events.{log}
 use Rattle.snap_hand.specs.Shown.{shown}
 use Rattle.snap_hand.specs.declared.parts.Part.{Part}
-
--- ---- open journals
-
-pub open_front : {X : Type 0} (P : X → Type 0) (xs : List X) (x : X) → AllByRecursion P (xs ++ x ∷ []) → AllByRecursion P xs
-open_front P [] x h = tt
-open_front P (y ∷ xs) x h = (h.0, open_front P xs x h.1)
-
-pub open_last : {X : Type 0} (P : X → Type 0) (xs : List X) (x : X) → AllByRecursion P (xs ++ x ∷ []) → P x
-open_last P [] x h = h.0
-open_last P (y ∷ xs) x h = open_last P xs x h.1
 
 -- ---- one share more
 
@@ -38,7 +28,7 @@ one_log js ks j bs cs all is less more =
 -- ---- all of them
 
 pub all_laid : (ps qs : List Part) (xs : List ShareState) → laid qs xs ≡ laid ps [] → length qs ≡ 0 → parts_of (reverse xs) ≡ map shown ps
-all_laid ps qs xs same none = ap (λ rs. laid rs xs) (sym (none_in qs none)) ∙ (same ∙ append-nil (map shown ps))
+all_laid ps qs xs same none = ap (λ rs. laid rs xs) (sym (nothing_left qs none)) ∙ (same ∙ append-nil (map shown ps))
 
 journal_is : (o : Option LogState) (b : BesideState) → option_map beside_log o ≡ Some b → b.journal ≡ o
 journal_is None b h = absurd (cc h)
@@ -54,14 +44,14 @@ pub stand_beside : (xs : List ShareState) (js : List LogState) (out : OutputStat
 stand_beside xs js out n is = record {
   logs = λ l x within at.
       let cells = replicate n beside_none in
-      let there : slice_get (besides_of xs) (log l) ≡ Some x.beside = mapped_at (λ (y : ShareState). y.beside) xs (log l) x at in
+      let there : slice_get (besides_of xs) (log l) ≡ Some x.beside = get_mapped (λ (y : ShareState). y.beside) xs (log l) x at in
       let here : slice_get (map beside_log js) l ≡ Some x.beside =
       sym (get_front (map beside_log js) cells l (subst (λ k. l < k) (sym (length_map js)) within))
       ∙ (sym (behind_four beside_none beside_none beside_none (beside_desk out) (map beside_log js ++ cells) l)
       ∙ (ap (λ bs. slice_get bs (log l)) (sym is) ∙ there)) in
       journal_is (slice_get js l) x.beside (sym (slice_get-map beside_log js l) ∙ here);
   desk = λ x at.
-      let there : slice_get (besides_of xs) 3 ≡ Some x.beside = mapped_at (λ (y : ShareState). y.beside) xs 3 x at in
+      let there : slice_get (besides_of xs) 3 ≡ Some x.beside = get_mapped (λ (y : ShareState). y.beside) xs 3 x at in
       output_is x.beside (ap (λ bs. slice_get bs 3) (sym is) ∙ there);
 } where
   length_map : (ks : List LogState) → length (map beside_log ks) ≡ length ks

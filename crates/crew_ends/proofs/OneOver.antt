@@ -55,16 +55,6 @@ get_seam (x ∷ xs) ys y (suc n) h = get_seam xs ys y n (omega (arith, h))
 pub get_of_front : {X : Type 0} (xs all : List X) (i : ℕ) → IsFront xs all → i < length xs → slice_get all i ≡ slice_get xs i
 get_of_front xs all i front h = ap (λ zs. slice_get zs i) front.is ∙ get_front xs front.rest i h
 
-pub one_at : {X : Type 0} (xs : List X) (i : ℕ) → i < length xs → (x : X) × (slice_get xs i ≡ Some x)
-one_at [] i h = absurd (omega (arith, h))
-one_at (x ∷ xs) zero h = (x, refl)
-one_at (x ∷ xs) (suc i) h = one_at xs i (omega (arith, h))
-
-pub mapped_at : {A B : Type 0} (f : A → B) (xs : List A) (i : ℕ) (x : A) → slice_get xs i ≡ Some x → slice_get (map f xs) i ≡ Some (f x)
-mapped_at f [] i x h = absurd (cc h)
-mapped_at f (y ∷ xs) zero x h = ap Some (ap f (cc h))
-mapped_at f (y ∷ xs) (suc i) x h = mapped_at f xs i x h
-
 pub mapped_from : {A B : Type 0} (f : A → B) (xs : List A) (i : ℕ) (y : B) → slice_get (map f xs) i ≡ Some y → (x : A) × ((slice_get xs i ≡ Some x) × (f x ≡ y))
 mapped_from f [] i y h = absurd (cc h)
 mapped_from f (x ∷ xs) zero y h = (x, (refl, cc h))
@@ -77,7 +67,3 @@ last_of (x ∷ y ∷ xs) zero h = absurd (omega (arith, h))
 last_of (x ∷ y ∷ xs) (suc n) h =
     let r = last_of (y ∷ xs) n (omega (arith, h)) in
     (x ∷ r.0, (r.1.0, (ap (λ zs. x ∷ zs) r.1.1.0, omega (arith, r.1.1.1))))
-
-pub none_in : {X : Type 0} (xs : List X) → length xs ≡ 0 → xs ≡ []
-none_in [] h = refl
-none_in (x ∷ xs) h = absurd (omega (arith, h))

@@ -1,11 +1,11 @@
 -- The shares that a crew begins with.
 use Rattle.std.proofs.Common.{◌≡◌, ℕ, zero, suc, ◌+◌, ◌<◌, ◌≤◌, ◌^◌, false, Some, List, [], ◌∷◌, length, slice_get, subst, ◌∙◌, arith}
 use Rattle.std.specs.List.{AllByRecursion}
+use Rattle.snap_base.proofs.Lists.{one_at}
 use Rattle.aml_slice.specs.Controls.{Rest}
 use Rattle.crew_ends.specs.Ends.{AreBeside}
 use Rattle.crew_ends.specs.Lists.{parts_of}
 use Rattle.crew_ends.proofs.Ending.{shares_begin}
-use Rattle.crew_ends.proofs.OneOver.{one_at}
 use Rattle.crew_parts.specs.Crews.{Begins}
 use Rattle.crew_parts.specs.Shares.{OutputState, ShareState}
 use Rattle.gate_log.specs.State.{LogState}

@@ -1,19 +1,17 @@
 -- Shares that are taken apart, from the last one on.
-use Rattle.std.proofs.Common.{◌≡◌, ℕ, zero, suc, ◌+◌, ◌<◌, option_map, IsSome, Option, Some, None, List, [], ◌∷◌, ◌++◌, length, map, reverse, slice_get, refl, sym, ap, subst, ◌∙◌, arith, append-nil}
+use Rattle.std.proofs.Common.{◌≡◌, ℕ, zero, suc, ◌+◌, ◌<◌, option_map, Option, Some, None, List, [], ◌∷◌, ◌++◌, length, map, reverse, slice_get, sym, ap, subst, ◌∙◌, arith, append-nil}
 use Rattle.std.proofs.lemmas.List.{length-map}
 use Rattle.std.proofs.lemmas.Option.{slice_get-map, slice_get_within}
+use Rattle.snap_base.proofs.Lists.{get_mapped, nothing_left}
+use Rattle.snap_base.proofs.Options.{some_value}
 use Rattle.crew_ends.specs.Ends.{AreBeside}
 use Rattle.crew_ends.specs.Lists.{EndsWithJournal, EndsWithOutput, HaveJournals, HaveOutput, IsFront, besides_of, gathered, journals_of, parts_of, taken}
-use Rattle.crew_ends.proofs.OneOver.{get_behind, get_of_front, get_seam, last_of, mapped_at, none_in}
+use Rattle.crew_ends.proofs.OneOver.{get_behind, get_of_front, get_seam, last_of}
 use Rattle.crew_parts.specs.Shares.{BesideState, OutputState, ShareState}
 use Rattle.gate_log.specs.State.{LogState}
 use Rattle.protocol.specs.Events.{desk, log}
 use Rattle.snap_hand.specs.Shown.{shown}
 use Rattle.snap_hand.specs.declared.parts.Part.{Part}
-
-value_of : {X : Type 0} (o : Option X) → IsSome o → (x : X) × (o ≡ Some x)
-value_of None h = absurd (cc h)
-value_of (Some x) h = (x, refl)
 
 pub as_many : (xs : List ShareState) (n : ℕ) → length xs ≡ n → length (besides_of xs) ≡ n
 as_many xs n h = length-map xs (λ (x : ShareState). x.beside) ∙ h
@@ -33,13 +31,13 @@ last_at all cur front b n of is count =
 pub ends_with_journal : (n k : ℕ) (all cur : List BesideState) → HaveJournals n all → IsFront cur all → length cur ≡ suc (log k) → k < n → (j : LogState) × EndsWithJournal j cur
 ends_with_journal n k all cur have of count within =
     let r = last_of cur (log k) count in
-    let there = value_of r.1.0.journal (have k r.1.0 within (last_at all cur r.0 r.1.0 (log k) of r.1.1.0 r.1.1.1)) in
+    let there = some_value r.1.0.journal (have k r.1.0 within (last_at all cur r.0 r.1.0 (log k) of r.1.1.0 r.1.1.1)) in
     (there.0, record { front = r.0; last = r.1.0; is = r.1.1.0; there = there.1 })
 
 pub ends_with_output : (all cur : List BesideState) → HaveOutput all → IsFront cur all → length cur ≡ 4 → (o : OutputState) × EndsWithOutput o cur
 ends_with_output all cur have of count =
     let r = last_of cur 3 count in
-    let there = value_of r.1.0.output (have r.1.0 (last_at all cur r.0 r.1.0 3 of r.1.1.0 r.1.1.1)) in
+    let there = some_value r.1.0.output (have r.1.0 (last_at all cur r.0 r.1.0 3 of r.1.1.0 r.1.1.1)) in
     (there.0, record { front = r.0; last = r.1.0; is = r.1.1.0; there = there.1 })
 
 pub have_front : (n : ℕ) (some all : List BesideState) → IsFront some all → HaveJournals n all → HaveJournals n some
@@ -64,7 +62,7 @@ output_there o bs front b ends is = ap (λ (c : BesideState). c.output) (last_sa
 -- ---- all of them
 
 pub all_taken : (xs ys : List ShareState) (ps : List Part) → taken xs ps ≡ taken ys [] → length xs ≡ 0 → map shown (reverse ps) ≡ parts_of ys
-all_taken xs ys ps same none = ap (λ zs. taken zs ps) (sym (none_in xs none)) ∙ (same ∙ append-nil (parts_of ys))
+all_taken xs ys ps same none = ap (λ zs. taken zs ps) (sym (nothing_left xs none)) ∙ (same ∙ append-nil (parts_of ys))
 
 journal_is : (o : Option LogState) (j : Option LogState) → option_map Some o ≡ Some j → j ≡ o
 journal_is None j h = absurd (cc h)
@@ -76,12 +74,12 @@ module _ (xs : List ShareState) (logs four : List BesideState) (js : List LogSta
     (first : IsFront logs (besides_of xs)) (next : IsFront four logs)
     (all : gathered four js ≡ gathered logs []) (desk_is : EndsWithOutput out four) where
   besides_there : (i : ℕ) (x : ShareState) → i < length logs → slice_get xs i ≡ Some x → slice_get logs i ≡ Some x.beside
-  besides_there i x within at = sym (get_of_front logs (besides_of xs) i first within) ∙ mapped_at (λ (y : ShareState). y.beside) xs i x at
+  besides_there i x within at = sym (get_of_front logs (besides_of xs) i first within) ∙ get_mapped (λ (y : ShareState). y.beside) xs i x at
 
   log_there : (l : ℕ) (x : ShareState) → l < length (reverse js) → slice_get xs (log l) ≡ Some x → x.beside.journal ≡ slice_get (reverse js) l
   log_there l x within at =
       let inside : log l < length logs = omega (arith, count, within) in
-      let one : slice_get (journals_of logs) (log l) ≡ Some x.beside.journal = mapped_at (λ (b : BesideState). b.journal) logs (log l) x.beside (besides_there (log l) x inside at) in
+      let one : slice_get (journals_of logs) (log l) ≡ Some x.beside.journal = get_mapped (λ (b : BesideState). b.journal) logs (log l) x.beside (besides_there (log l) x inside at) in
       let same : gathered four js ≡ journals_of logs = all ∙ append-nil (journals_of logs) in
       let behind : slice_get (gathered four js) (log l) ≡ slice_get (map Some (reverse js)) l =
       get_behind (journals_of four) (map Some (reverse js)) 4 l (length-map four (λ (b : BesideState). b.journal) ∙ end) in

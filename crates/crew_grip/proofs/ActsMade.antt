@@ -2,6 +2,7 @@
 use Rattle.std.proofs.Common.{◌≡◌, ℕ, Bool, true, false, inl, inr, ◌||◌, is_some, List, [], ◌∷◌, length, map, Option, None, Some, ap, sym, subst, refl, ◌∙◌, arith, true≢false}
 use Rattle.std.specs.List.{AllByRecursion}
 use Rattle.std.proofs.lemmas.Bool.Decides.{eqb_tells}
+use Rattle.snap_base.proofs.Options.{is_some_map}
 use Rattle.aml_slice.specs.Controls.{Rest}
 use Rattle.core_rows.specs.declared.step_no.StepNo.{StepNo}
 use Rattle.core_rows.specs.declared.step_no.StepNo.TheVariants.{NotNow, Memory}
@@ -22,7 +23,6 @@ use Rattle.snap_hand.specs.Steps.{IsNoOn, IsRefusalOn, IsTakenOn, MayBeAsked, On
 use Rattle.turn_table.specs.Places.{at, Covers}
 use Rattle.crew_grip.specs.Acted.{AreSound, BesidesGo, HasActed, HasGoneOut, IsReadyAt, IsStepped}
 use Rattle.crew_grip.specs.Grips.{GripState, IsGripOf, beside_in}
-use Rattle.crew_grip.proofs.ByNumber.{is_some_map}
 use Rattle.crew_grip.proofs.HandsHold.{has_all, on_some_run}
 
 -- ---- parts that are ready

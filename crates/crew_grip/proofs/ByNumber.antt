@@ -1,5 +1,5 @@
 -- Lists by number: what stands there after an event, and in lists that are set.
-use Rattle.std.proofs.Common.{◌≡◌, ◌≢◌, ℕ, zero, suc, ◌<◌, ◌==◌, ◌||◌, Bool, true, false, inl, inr, List, [], ◌∷◌, length, map, replicate, get_or, nat_lt, slice_get, slice_set, Option, None, Some, IsSome, is_some, option_map, ap, sym, subst, refl, ◌∙◌, arith}
+use Rattle.std.proofs.Common.{◌≡◌, ◌≢◌, ℕ, zero, suc, ◌<◌, ◌==◌, ◌||◌, Bool, true, false, inl, inr, List, [], ◌∷◌, length, map, replicate, get_or, nat_lt, slice_get, slice_set, Option, None, Some, IsSome, is_some, ap, sym, subst, refl, ◌∙◌, arith}
 use Rattle.std.specs.Option.{option_flatten}
 use Rattle.std.proofs.lemmas.Bool.{true≢false, or_parts, ltb-false, ltb-true}
 use Rattle.std.proofs.lemmas.Bool.Decides.{eqb_tells}
@@ -97,10 +97,6 @@ pub map_there : {P : Type 0} (xs : List (Option P)) (i : ℕ) (x : P) → at xs 
 map_there [] i x e = absurd (cc e)
 map_there (y ∷ ys) zero x e = ap (λ o. Some (is_some o)) e
 map_there (y ∷ ys) (suc i) x e = map_there ys i x e
-
-pub is_some_map : {P Q : Type 0} (f : P → Q) (o : Option P) → is_some (option_map f o) ≡ is_some o
-is_some_map f None = refl
-is_some_map f (Some x) = refl
 
 module _ {P : Type 0} where
   pub at_get : (hs : List (Option P)) (i : ℕ) (x : Option P) → slice_get hs i ≡ Some x → at hs i ≡ x

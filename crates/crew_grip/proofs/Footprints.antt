@@ -1,8 +1,8 @@
 -- A footprint that is looked through, number by number.
 use Rattle.std.proofs.Common.{◌≡◌, ◌≢◌, ℕ, zero, suc, ◌+◌, ◌≤◌, ◌||◌, ◌==◌, ◌⊎◌, Bool, true, false, inl, inr, List, [], ◌∷◌, ◌++◌, length, take, slice_get, Some, ap, sym, subst, refl, ◌∙◌, arith, add-one, true≢false}
-use Rattle.std.specs.List.{AllByRecursion}
 use Rattle.std.proofs.lemmas.Bool.{or_parts}
 use Rattle.std.proofs.lemmas.Bool.Decides.{eqb_tells}
+use Rattle.snap_base.proofs.Lists.{take_next}
 use Rattle.protocol.specs.Words.{is_among}
 
 equal : (x n : ℕ) → x ≡ n → (x == n) ≡ true
@@ -11,11 +11,6 @@ equal x n e = elim (eqb_tells x n) [ inl h ↦ h.0 | inr h ↦ absurd (h.1 e) ]
 unequal : (x n : ℕ) → x ≢ n → (x == n) ≡ false
 unequal x n ne = elim (eqb_tells x n) [ inl h ↦ absurd (ne h.1) | inr h ↦ h.0 ]
 
-next_taken : {X : Type 0} (xs : List X) (i : ℕ) (x : X) → slice_get xs i ≡ Some x → take (suc i) xs ≡ take i xs ++ x ∷ []
-next_taken [] i x e = absurd (cc e)
-next_taken (y ∷ ys) zero x e = (let same : y ≡ x = cc e in ap (λ z. z ∷ []) same)
-next_taken (y ∷ ys) (suc i) x e = ap (λ zs. y ∷ zs) (next_taken ys i x e)
-
 among_more : (n : ℕ) (xs : List ℕ) (x : ℕ) → is_among n xs ≡ false → (x == n) ≡ false → is_among n (xs ++ x ∷ []) ≡ false
 among_more n [] x e d = ap (λ b. b || false) d
 among_more n (y ∷ ys) x e d = let parts = or_parts (y == n) (is_among n ys) e in ap (λ b. b || is_among n (ys ++ x ∷ [])) parts.0 ∙ among_more n ys x parts.1 d
@@ -23,7 +18,7 @@ among_more n (y ∷ ys) x e d = let parts = or_parts (y == n) (is_among n ys) e 
 -- it is not one of those so far, nor this one
 pub not_yet : (n : ℕ) (xs : List ℕ) (i x : ℕ) → slice_get xs i ≡ Some x → is_among n (take i xs) ≡ false → x ≢ n → is_among n (take (i + 1) xs) ≡ false
 not_yet n xs i x here before other =
-    subst (λ k. is_among n (take k xs) ≡ false) (sym (add-one i)) (subst (λ ys. is_among n ys ≡ false) (sym (next_taken xs i x here)) (among_more n (take i xs) x before (unequal x n other)))
+    subst (λ k. is_among n (take k xs) ≡ false) (sym (add-one i)) (subst (λ ys. is_among n ys ≡ false) (sym (take_next xs i x here)) (among_more n (take i xs) x before (unequal x n other)))
 
 -- it is this one
 pub found : (n : ℕ) (xs : List ℕ) (i x : ℕ) → slice_get xs i ≡ Some x → x ≡ n → is_among n xs ≡ true
@@ -40,14 +35,6 @@ all_taken [] (suc i) h = refl
 all_taken (x ∷ xs) zero h = absurd (omega (arith, h))
 all_taken (x ∷ xs) (suc i) h = ap (λ ys. x ∷ ys) (all_taken xs i (omega (arith, h)))
 
--- the same of what holds of each
-all_more : {X : Type 0} (P : X → Type 0) (xs : List X) (x : X) → AllByRecursion P xs → P x → AllByRecursion P (xs ++ x ∷ [])
-all_more P [] x all one = (one, tt)
-all_more P (y ∷ ys) x all one = (all.0, all_more P ys x all.1 one)
-
-pub all_next : {X : Type 0} (P : X → Type 0) (xs : List X) (i : ℕ) (x : X) → slice_get xs i ≡ Some x → AllByRecursion P (take i xs) → P x → AllByRecursion P (take (i + 1) xs)
-all_next P xs i x here all one = subst (λ k. AllByRecursion P (take k xs)) (sym (add-one i)) (subst (AllByRecursion P) (sym (next_taken xs i x here)) (all_more P (take i xs) x all one))
-
 -- one of those so far and the next
 pub among_next : (j : ℕ) (xs : List ℕ) (i x : ℕ) → slice_get xs i ≡ Some x → is_among j (take (i + 1) xs) ≡ true → (is_among j (take i xs) ≡ true) ⊎ (x ≡ j)
 among_next j xs i x here now = elim (eqb_tells x j) [
@@ -57,13 +44,3 @@ among_next j xs i x here now = elim (eqb_tells x j) [
   before : (b : Bool) → is_among j (take i xs) ≡ b → x ≢ j → is_among j (take i xs) ≡ true
   before true q other = q
   before false q other = absurd (true≢false (sym now ∙ not_yet j xs i x here q other))
-
--- the one at a place
-pub all_at : {X : Type 0} (P : X → Type 0) (xs : List X) (i : ℕ) (x : X) → slice_get xs i ≡ Some x → AllByRecursion P xs → P x
-all_at P [] i x here all = absurd (cc here)
-all_at P (y ∷ ys) zero x here all = (let same : y ≡ x = cc here in subst P same all.0)
-all_at P (y ∷ ys) (suc i) x here all = all_at P ys i x here all.1
-
-pub all_as : {X : Type 0} (P Q : X → Type 0) (xs : List X) → ((x : X) → P x → Q x) → AllByRecursion P xs → AllByRecursion Q xs
-all_as P Q [] each all = tt
-all_as P Q (x ∷ xs) each all = (each x all.0, all_as P Q xs each all.1)

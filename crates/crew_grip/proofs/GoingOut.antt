@@ -1,11 +1,10 @@
 -- What stands before an event: at a Sync the append of what waits, at a reply its line, and else nothing.
-use Rattle.std.proofs.Common.{◌≡◌, ◌≢◌, ℕ, zero, suc, ◌+◌, ◌≤◌, ◌<◌, ◌==◌, Bool, true, false, not, if◌then◌else◌, inl, inr, ◌||◌, is_some, List, [], ◌∷◌, length, map, drop, slice_get, slice_set, Option, None, Some, Ok, Err, ap, sym, subst, refl, ◌∙◌, arith, true≢false, nat_lt, nat_eq}
+use Rattle.std.proofs.Common.{◌≡◌, ◌≢◌, ℕ, zero, suc, ◌+◌, ◌≤◌, ◌<◌, ◌==◌, Bool, true, false, not, if◌then◌else◌, inl, inr, ◌||◌, is_some, List, [], ◌∷◌, length, map, drop, slice_get, slice_set, Option, None, Some, Ok, Err, ap, sym, subst, refl, ◌∙◌, arith, true≢false, nat_eq}
 use Rattle.std.specs.Io.KnownBytes.{Appends}
 use Rattle.std.proofs.KnownBytes.{Appends-nil}
 use Rattle.std.proofs.lemmas.Bool.{eq-eqb}
 use Rattle.std.proofs.lemmas.Bool.Decides.{eqb_tells}
 use Rattle.std.proofs.lemmas.List.{length-set}
-use Rattle.std.proofs.lemmas.Option.{slice_get_within}
 use Rattle.aml_slice.specs.Controls.{Rest}
 use Rattle.core_events.specs.Meant.{event_meant}
 use Rattle.core_events.specs.declared.events.Event as code
@@ -15,17 +14,18 @@ use Rattle.crew_parts.specs.Acts.{HasPrinted, JournalGoes, OutputGoes, Prints, g
 use Rattle.crew_parts.specs.Besides.{HasAppended, HasBrokenOff, HasWritten, MayAppendTo, JournalBecame, OutputBecame, is_ready_journal, is_ready_output}
 use Rattle.crew_parts.specs.Crews.{Begins, JournalIs, Stands}
 use Rattle.crew_parts.specs.Shares.{BesideState, OutputState, ShareState}
+use Rattle.crew_parts.proofs.FewActs.{synced_exists}
 use Rattle.gate_log.specs.Device.{MayAppend}
 use Rattle.gate_log.specs.State.{LogState}
 use Rattle.gate_log.specs.declared.logs.AppendNo.{AppendNo}
 use Rattle.gate_log.specs.declared.logs.AppendNo.TheVariants as append
 use Rattle.run_effects.specs.Sizes.{most_bytes}
 use Rattle.log_set.specs.Shown.{told_bytes}
-use Rattle.protocol.specs.Conditions.{IsAllowed, conditions, refusal}
+use Rattle.protocol.specs.Conditions.{IsAllowed, refusal}
 use Rattle.protocol.specs.Effects.{log_at}
 use Rattle.protocol.specs.Events.{Event, Sync, Reply, book, desk, log}
 use Rattle.protocol.specs.Fixed.{Fixed}
-use Rattle.protocol.specs.Parts.{Log, Machine}
+use Rattle.protocol.specs.Parts.{Machine}
 use Rattle.protocol.specs.Records.{LogRecord}
 use Rattle.protocol.specs.Runs.{reached}
 use Rattle.protocol.specs.Verdicts.{verdict}
@@ -41,6 +41,8 @@ use Rattle.run_effects.specs.Groups.{group_by, groups_of, waiting}
 use Rattle.run_effects.specs.Lines.{line_in, verdict_line}
 use Rattle.snap_base.specs.declared.verdicts.Verdict.{Verdict}
 use Rattle.snap_base.specs.declared.ids.TxNo.{TxNo}
+use Rattle.snap_base.proofs.Options.{same_some, none_is_some}
+use Rattle.snap_base.proofs.Booleans.{not_false}
 use Rattle.snap_hand.specs.Hands.{Fits}
 use Rattle.snap_hand.specs.Steps.{IsRefusalOn, may_want}
 use Rattle.snap_outside.proofs.AtFault.{no_call}
@@ -55,17 +57,7 @@ use Rattle.crew_grip.proofs.ByNumber.{set_here, set_else, at_within}
 use Rattle.turn_table.proofs.ByPlace.{some_of}
 use Rattle.crew_grip.proofs.HandsHold.{stands_fit}
 
-some_same : {X : Type 0} (x y : X) → Some x ≡ Some y → x ≡ y
-some_same x y e = cc e
-
-none_is_some : {X : Type 0} (x : X) → None ≡ Some x → ⊥
-none_is_some x e = cc e
-
 -- ---- an open journal, an output that has not failed
-
-not_false : (b : Bool) → not b ≡ true → b ≡ false
-not_false true q = absurd (true≢false (sym q))
-not_false false q = refl
 
 pub ready_journal : (o : Option LogState) → is_ready_journal o ≡ true → (j : LogState) × ((o ≡ Some j) × (j.shut ≡ false))
 ready_journal None e = absurd (true≢false (sym e))
@@ -93,7 +85,7 @@ module _ (w : Fixed Rest) (same : (a : LogState) → a.shut ≡ false → IsDriv
   quiet e g sound groups line = record {
     hand = refl;
     besides = λ s run fits i a b was is. (
-        let still : a ≡ b = some_same a b (sym was ∙ is) in
+        let still : a ≡ b = same_some a b (sym was ∙ is) in
         subst (BesideGoes w s true e i a) still (record {
           journal = λ l within here. journal_same l e s a.journal ((sound i a was).journal l within here) (groups l s);
           output = λ here. output_same e s a.output ((sound i a was).output here) (line s);
@@ -113,7 +105,7 @@ module _ (w : Fixed Rest) (same : (a : LogState) → a.shut ≡ false → IsDriv
   no_line_before n g sound none = record {
     hand = refl;
     besides = λ s run fits i a b was is. (
-        let still : a ≡ b = some_same a b (sym was ∙ is) in
+        let still : a ≡ b = same_some a b (sym was ∙ is) in
         subst (BesideGoes w s true (Reply n) i a) still (record {
           journal = λ l within here. journal_same l (Reply n) s a.journal ((sound i a was).journal l within here) refl;
           output = λ here. output_same (Reply n) s a.output ((sound i a was).output here) (none s fits);
@@ -140,11 +132,11 @@ one_goes w done e g i b c was goes others = record {
   hand = refl;
   besides = λ s run fits k a d old new. elim (eqb_tells i k) [
     | inl h ↦ (
-        let this : b ≡ a = some_same b a (sym was ∙ (ap (at g.besides) h.1 ∙ old)) in
-        let that : c ≡ d = some_same c d (sym (set_here g.besides i (Some c) (at_within g.besides i b was)) ∙ (ap (at (slice_set g.besides i (Some c))) h.1 ∙ new)) in
+        let this : b ≡ a = same_some b a (sym was ∙ (ap (at g.besides) h.1 ∙ old)) in
+        let that : c ≡ d = same_some c d (sym (set_here g.besides i (Some c) (at_within g.besides i b was)) ∙ (ap (at (slice_set g.besides i (Some c))) h.1 ∙ new)) in
         subst (λ j. BesideGoes w s done e j a d) h.1 (subst (λ x. BesideGoes w s done e i x d) this (subst (BesideGoes w s done e i b) that (goes s run fits))))
     | inr h ↦ (
-        let same : a ≡ d = some_same a d (sym old ∙ (sym (set_else g.besides i k (Some c) h.1) ∙ new)) in
+        let same : a ≡ d = same_some a d (sym old ∙ (sym (set_else g.besides i k (Some c) h.1) ∙ new)) in
         subst (BesideGoes w s done e k a) same (others s k a h.1 old))
   ];
   many = length-set g.besides i (Some c);
@@ -173,7 +165,7 @@ module _ (w : Fixed Rest) (held : List (Option ShareState)) (g : GripState) (l :
         journal = λ k in_k here. subst (λ m. JournalGoes m done (Sync l) s b.journal c.journal) (same_number l k here)
             (subst (λ o. JournalGoes l done (Sync l) s o c.journal) (sym became.was) (subst (JournalGoes l done (Sync l) s (Some became.before)) (sym became.is) (
               (let j = ready_journal b.journal ((sound (log l) b was).journal l within refl) in
-                  subst (λ (x : LogState). x.shut ≡ false) (some_same j.0 became.before (sym j.1.0 ∙ became.was)) j.1.1),
+                  subst (λ (x : LogState). x.shut ≡ false) (same_some j.0 became.before (sym j.1.0 ∙ became.was)) j.1.1),
               drives s run fits became.before became.after became.was became.changed,
             )));
         output = λ here. absurd (omega (arith, here));
@@ -237,10 +229,6 @@ is_there : {X : Type 0} (test : X → Bool) (x : Option X) → holds test x ≡ 
 is_there test None is = cc
 is_there test (Some y) is = (y, refl)
 
-pub log_exists : (w : Fixed Rest) (l : ℕ) (s : Machine Rest) → IsAllowed w (Sync l) s → l < length s.logs
-unfolding conditions
-log_exists w l s is = let there = is_there (λ (g : Log). nat_lt g.synced (length g.records)) (slice_get s.logs l) is.0 in slice_get_within s.logs l there.0 there.1
-
 -- ---- a reply
 
 module _ (w : Fixed Rest) (held : List (Option ShareState)) (g : GripState) (n : ℕ) (grip : IsGripOf w held g) (just : IsJust (book ∷ desk ∷ []) held) (sound : AreSound w.text.logs g)
@@ -262,7 +250,7 @@ module _ (w : Fixed Rest) (held : List (Option ShareState)) (g : GripState) (n :
     output_of done changes s c became told =
         subst (λ o. OutputGoes done (Reply n) s o c.output) (sym became.was) (subst (OutputGoes done (Reply n) s (Some became.before)) (sym became.is) (
           (let x = ready_output b.output ((sound desk b was).output refl) in
-              subst (λ (y : OutputState). y.failed ≡ false) (some_same x.0 became.before (sym x.1.0 ∙ became.was)) x.1.1),
+              subst (λ (y : OutputState). y.failed ≡ false) (same_some x.0 became.before (sym x.1.0 ∙ became.was)) x.1.1),
           told became.before became.after became.changed,
         ))
 
@@ -304,7 +292,7 @@ pub sync_within : (w : Fixed Rest) (l : ℕ) (start : List ShareState) (held : L
     → (st : Stands w start held) → IsGripOf w held g → IsRefusalOn w (Sync l) g.hand 0 → l < w.text.logs
 sync_within w l start held g runs says st grip allowed =
     let s = reached w st.events in
-    let exists = log_exists w l s (says s (allowed s st.lead (stands_fit w start held g st grip))) in
+    let exists = synced_exists w l s (says s (allowed s st.lead (stands_fit w start held g st grip))) in
     omega (arith, exists, runs.logs st.events st.come.run)
 
 -- what is held of the log that is synced

@@ -22,6 +22,7 @@ use Rattle.protocol.specs.Parts.{Log, Machine}
 use Rattle.protocol.specs.Runs.{reached}
 use Rattle.protocol.specs.Words.{holds, is_among}
 use Rattle.protocol_theorems.specs.Left.{most_events}
+use Rattle.core_rows.proofs.Found.{held}
 use Rattle.run_effects.specs.Groups.{waiting}
 use Rattle.turn_table.specs.Places.{Ascending, Covers, Stand, count_if, numbers, replaced, values}
 use Rattle.turn_table.specs.Runs.{Run}
@@ -93,13 +94,9 @@ which (Sync k) h = inl (k, refl)
 which (Reply n) h = inr (n, refl)
 which e h = absurd (true≢false (sym h))
 
-is_there : {X : Type 0} (test : X → Bool) (o : Option X) → holds test o ≡ true → (x : X) × (o ≡ Some x)
-is_there test None h = absurd (true≢false (sym h))
-is_there test (Some x) h = (x, refl)
-
-synced_exists : (w : Fixed Rest) (k : ℕ) (s : Machine Rest) → IsAllowed w (Sync k) s → k < length s.logs
+pub synced_exists : (w : Fixed Rest) (k : ℕ) (s : Machine Rest) → IsAllowed w (Sync k) s → k < length s.logs
 unfolding conditions
-synced_exists w k s ok = let there = is_there (λ (g : Log). nat_lt g.synced (length g.records)) (slice_get s.logs k) ok.0 in slice_get_within s.logs k there.0 there.1
+synced_exists w k s ok = let there = held (λ (g : Log). nat_lt g.synced (length g.records)) (slice_get s.logs k) ok.0 in slice_get_within s.logs k there.0 there.1
 
 covered_is_there : (xs : List ShareState) (i : ℕ) (is : List ℕ) → Covers (slice_get xs) (i ∷ is) → i < length xs
 covered_is_there xs i is covers = let c = slice_get_cases xs i in elim c.1 [
@@ -124,7 +121,7 @@ module _ (w : Fixed Rest) (s : Machine Rest) (done : Bool) (e : Event) (xs made 
     -- what is true of no part that an act finds stays true
     stays : (i : ℕ) (test : ShareState → Bool) → ((x y : ShareState) → Goes w s done e i x y → test x ≡ false) → holds test (slice_get xs i) ≡ true → holds test (slice_get now i) ≡ true
     stays i test none was =
-        let x = is_there test (slice_get xs i) was in
+        let x = held test (slice_get xs i) was in
         let y = there now i (omega (arith, slice_get_within xs i x.0 x.1, as_long xs touches made)) in
         elim (tells i y.0 y.1) [
           | inl to ↦ (

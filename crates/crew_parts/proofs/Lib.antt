@@ -3,8 +3,8 @@ mod PartsStay
 mod Outsides
 mod Coming
 mod Shutting
-mod LeftAlone
+pub mod LeftAlone
 mod UnderWay
 mod Telling
 mod DevicesStand
-mod FewActs
+pub mod FewActs

@@ -4,6 +4,7 @@ use Rattle.std.specs.Io.KnownBytes.{Appends}
 use Rattle.std.proofs.KnownBytes.{Appends-trans}
 use Rattle.std.proofs.lemmas.Bool.{eqb-false, or_parts, true≢false}
 use Rattle.std.proofs.lemmas.Bool.Decides.{eqb_tells}
+use Rattle.snap_base.proofs.Options.{some_value}
 use Rattle.aml_slice.specs.Controls.{Rest}
 use Rattle.crew_parts.specs.Acts.{JournalGoes, OutputGoes, Prints, behind, groups_by, tried_by, tried_at, line_at}
 use Rattle.crew_parts.specs.Crews.{IsReady, IsStillDue, JournalIs, OutputIs, Printed, added}
@@ -21,7 +22,6 @@ use Rattle.protocol.specs.Words.{holds, is_among}
 use Rattle.run_effects.specs.Groups.{group_by, group_behind, groups_of, waiting}
 use Rattle.run_effects.specs.Laws.{GroupsGrow, RepliesGrow, line_by}
 use Rattle.run_effects.specs.Lines.{line_in, verdict_line, replies_text}
-use Rattle.crew_parts.proofs.Replacing.{some_of}
 use Rattle.run_effects.specs.Driven.{IsDriven}
 use Rattle.run_effects.proofs.Driving.{driven_join}
 use Rattle.snap_outside.specs.Causes.{Rose}
@@ -123,7 +123,7 @@ reply_stays : (w : Fixed Rest) (es ds : List Event) (tx : ℕ) → (reached w es
     → IsAllowed w (Reply tx) (reached w ds) × (line_in (reached w ds) tx ≡ line_in (reached w es) tx)
 unfolding conditions
 reply_stays w es ds tx same go ok =
-    let told = some_of (verdict tx (reached w es).book (reached w es).desk) ok.1.0 in
+    let told = some_value (verdict tx (reached w es).book (reached w es).desk) ok.1.0 in
     let still = go tx told.0 told.1 in (
       (subst (λ (d : Desk). holds not (slice_get d.replied tx) ≡ true) same ok.0, (ap is_some still, tt)),
       ap (verdict_line tx) (still ∙ sym told.1),

@@ -1,7 +1,7 @@
 -- What stands in a list of shares after those with some numbers were replaced.
-use Rattle.std.proofs.Common.{◌≡◌, ◌≢◌, ℕ, zero, suc, Bool, false, inl, inr, ◌⊎◌, ◌||◌, Option, None, Some, IsSome, List, [], ◌∷◌, length, length-set, slice_get, slice_set, refl, sym, ap, subst, ◌∙◌}
+use Rattle.std.proofs.Common.{◌≡◌, ◌≢◌, ℕ, zero, suc, Bool, false, inl, inr, ◌⊎◌, ◌||◌, Option, Some, List, [], ◌∷◌, length, length-set, slice_get, slice_set, refl, sym, ap, subst, ◌∙◌}
 use Rattle.std.proofs.lemmas.Bool.Decides.{eqb_tells}
-use Rattle.std.proofs.lemmas.Bool.{true≢false}
+use Rattle.snap_base.proofs.Options.{some_value}
 use Rattle.aml_slice.specs.Controls.{Rest}
 use Rattle.crew_parts.specs.Acts.{Goes, EachGoes, AreShown}
 use Rattle.crew_parts.specs.Shares.{ShareState}
@@ -57,16 +57,12 @@ replaced_tells xs (j ∷ js) (z ∷ zs) i y many e = elim (replaced_tells (slice
   ]
 ]
 
-pub some_of : {X : Type 0} (o : Option X) → IsSome o → (x : X) × (o ≡ Some x)
-some_of None h = absurd (true≢false (sym h))
-some_of (Some x) h = (x, refl)
-
 module _ (w : Fixed Rest) (s : Machine Rest) where
   -- the parts that are covered are parts of the state
   pub covered_are_shown : (f : ℕ → Option ShareState) (is : List ℕ) → ((i : ℕ) (x : ShareState) → f i ≡ Some x → IsPartOf w s i x.part) → Covers f is → AreShown w s is (values f is)
   covered_are_shown f [] parts covers = refl
   covered_are_shown f (i ∷ is) parts covers =
-      let there = some_of (f i) covers.0 in
+      let there = some_value (f i) covers.0 in
       subst (λ o. AreShown w s (i ∷ is) (before o (values f is))) (sym there.1) (parts i there.0 there.1, covered_are_shown f is parts covers.1)
 
   pub goes_as_many : (done : Bool) (e : Event) (is : List ℕ) (xs ys : List ShareState) → EachGoes w s done e is xs ys → AsMany is ys
@@ -81,7 +77,7 @@ module _ (w : Fixed Rest) (s : Machine Rest) where
   came_from done e f [] ys i y covers goes to = absurd to
   came_from done e f (j ∷ js) [] i y covers goes to = absurd to
   came_from done e f (j ∷ js) (z ∷ zs) i y covers goes to =
-      let there = some_of (f j) covers.0 in
+      let there = some_value (f j) covers.0 in
       let each : EachGoes w s done e (j ∷ js) (there.0 ∷ values f js) (z ∷ zs) = subst (λ o. EachGoes w s done e (j ∷ js) (before o (values f js)) (z ∷ zs)) there.1 goes in
       elim to [
         | inl here ↦ (

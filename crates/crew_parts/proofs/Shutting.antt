@@ -4,6 +4,8 @@ use Rattle.std.proofs.lemmas.Bool.{eqb-false, eqb-true, or_parts}
 use Rattle.std.proofs.lemmas.Bool.Decides.{eqb_tells}
 use Rattle.std.proofs.lemmas.Option.{slice_get_cases}
 use Rattle.std.specs.List.{list_any}
+use Rattle.snap_base.proofs.Options.{some_value}
+use Rattle.snap_base.proofs.Booleans.{or_only}
 use Rattle.aml_slice.specs.Controls.{Rest}
 use Rattle.crew_parts.specs.Acts.{EachGoes, Goes, JournalGoes, meant, tried_at, tried_by}
 use Rattle.crew_parts.specs.Besides.{is_shut_there}
@@ -18,7 +20,7 @@ use Rattle.protocol.specs.Parts.{Machine}
 use Rattle.protocol.specs.Words.{holds, is_among}
 use Rattle.run_effects.specs.Groups.{waiting}
 use Rattle.turn_table.specs.Places.{Covers, before, replaced, values}
-use Rattle.crew_parts.proofs.Replacing.{as_long, came_from, goes_as_many, replaced_tells, some_of}
+use Rattle.crew_parts.proofs.Replacing.{as_long, came_from, goes_as_many, replaced_tells}
 
 -- ---- which acts leave a journal shut
 
@@ -81,18 +83,14 @@ there xs i within = let c = slice_get_cases xs i in elim c.1 [ inl x ↦ (x.0, x
 goes_at : (w : Fixed Rest) (s : Machine Rest) (done : Bool) (e : Event) (f : ℕ → Option ShareState) (i : ℕ) (js : List ℕ) (ys : List ShareState) → is_among i js ≡ true → Covers f js
     → EachGoes w s done e js (values f js) ys → (x y : ShareState) × (f i ≡ Some x) × Goes w s done e i x y
 goes_at w s done e f i [] ys among covers goes = absurd (true≢false (sym among))
-goes_at w s done e f i (j ∷ js) [] among covers goes = absurd (subst (λ o. EachGoes w s done e (j ∷ js) (before o (values f js)) []) (some_of (f j) covers.0).1 goes)
+goes_at w s done e f i (j ∷ js) [] among covers goes = absurd (subst (λ o. EachGoes w s done e (j ∷ js) (before o (values f js)) []) (some_value (f j) covers.0).1 goes)
 goes_at w s done e f i (j ∷ js) (z ∷ zs) among covers goes =
-    let there = some_of (f j) covers.0 in
+    let there = some_value (f j) covers.0 in
     let each : EachGoes w s done e (j ∷ js) (there.0 ∷ values f js) (z ∷ zs) = subst (λ o. EachGoes w s done e (j ∷ js) (before o (values f js)) (z ∷ zs)) there.1 goes in
     elim (eqb_tells j i) [
       | inl h ↦ (there.0, z, subst (λ k. f k ≡ Some there.0) h.1 there.1, subst (λ k. Goes w s done e k there.0 z) h.1 each.0)
       | inr h ↦ goes_at w s done e f i js zs (sym (ap (λ b. b || is_among i js) h.0) ∙ among) covers.1 each.1
     ]
-
-pub or_none : (x y : Bool) → y ≡ false → (x || y) ≡ x
-or_none true y h = refl
-or_none false y h = h
 
 module _ (w : Fixed Rest) (s : Machine Rest) (a : Act) (xs made : List ShareState) (covers : Covers (slice_get xs) (footprint w.text.logs (meant a)))
     (goes : EachGoes w s a.done (meant a) (footprint w.text.logs (meant a)) (values (slice_get xs) (footprint w.text.logs (meant a))) made) (l : ℕ) (within : l < w.text.logs)
@@ -118,5 +116,5 @@ module _ (w : Fixed Rest) (s : Machine Rest) (a : Act) (xs made : List ShareStat
               let old = came_from w s a.done (meant a) (slice_get xs) touches made (log l) y.0 covers goes to in
               let told = journal_tells l a.done (meant a) s old.0.beside.journal y.0.beside.journal (old.2.journal l within refl) in
               ap (holds is_shut) y.1 ∙ (told.1 ∙ (tried_shuts l a.done (meant a) s ∙ sym (ap (λ b. b || shuts l a) (ap (holds is_shut) old.1 ∙ told.0)))))
-          | inr here ↦ ap (holds is_shut) y.1 ∙ (sym (ap (holds is_shut) here.0) ∙ sym (or_none (is_shut_at xs l) (shuts l a) (ap (λ b. b && not a.done) (touched_by_sync w.text.logs l (meant a) here.1))))
+          | inr here ↦ ap (holds is_shut) y.1 ∙ (sym (ap (holds is_shut) here.0) ∙ sym (or_only (is_shut_at xs l) (shuts l a) (ap (λ b. b && not a.done) (touched_by_sync w.text.logs l (meant a) here.1))))
         ]

@@ -1,6 +1,7 @@
 -- What a log's device tells: the groups that the log got, and some or all of the append of one more.
 use Rattle.std.proofs.Common.{◌≡◌, ℕ, if◌then◌else◌, Bool, true, false, Option, None, Some, List, [], ◌∷◌, ◌++◌, refl, sym, ap, subst, ◌∙◌, append_assoc, append-nil, true≢false}
 use Rattle.std.proofs.lemmas.List.{append_cancel_left}
+use Rattle.snap_base.proofs.Options.{same_some}
 use Rattle.crew_parts.specs.Devices.{GrowsThrough}
 use Rattle.gate_log.specs.Appends.{append_ops}
 use Rattle.gate_log.specs.Opened.{beginning_ops}
@@ -12,9 +13,6 @@ use Rattle.snap_outside.specs.declared.devices.DevOp.{DevOp}
 use Rattle.txn_records.specs.declared.records.Record.{Record}
 
 -- ---- histories
-
-same_some : {X : Type 0} (x y : X) → Some x ≡ Some y → x ≡ y
-same_some x y e = cc e
 
 front_is_none : {X : Type 0} (xs ys : List X) → xs ++ ys ≡ [] → xs ≡ []
 front_is_none [] ys e = refl

@@ -2,6 +2,7 @@
 use Rattle.std.proofs.Common.{◌≡◌, ℕ, ◌<◌, ◌||◌, ◌&&◌, not, inl, inr, Bool, true, false, List, [], ◌∷◌, ◌++◌, length, slice_get, refl, sym, ap, subst, ◌∙◌, arith, append_assoc, append-nil, eq-eqb}
 use Rattle.std.proofs.lemmas.Bool.{or_left, or_right}
 use Rattle.std.proofs.lemmas.List.Folds.{list_any-append}
+use Rattle.snap_base.proofs.Booleans.{or_only}
 use Rattle.aml_slice.specs.Controls.{Rest}
 use Rattle.crew_parts.specs.Acts.{EachGoes, Happens, meant}
 use Rattle.crew_parts.specs.Besides.{is_shut_there}
@@ -20,7 +21,7 @@ use Rattle.turn_table.specs.Runs.{AllLeave, May, Run}
 use Rattle.crew_parts.proofs.Coming.{acts_come, begins}
 use Rattle.crew_parts.proofs.LeftAlone.{kept-append, none-append, none_more, none_touches}
 use Rattle.crew_parts.proofs.Replacing.{covered_are_shown}
-use Rattle.crew_parts.proofs.Shutting.{found_open, is_sync, or_none, shut_after, shut_by, shuts, there}
+use Rattle.crew_parts.proofs.Shutting.{found_open, is_sync, shut_after, shut_by, shuts, there}
 
 or_assoc : (x y z : Bool) → ((x || y) || z) ≡ (x || (y || z))
 or_assoc true y z = refl
@@ -75,7 +76,7 @@ module _ (w : Fixed Rest) (crew : Crew w) (l : ℕ) (within : l < w.text.logs) w
   one_act front xs run a made may = shut_after w (reached w (kept front)) a xs made may.0 (goes front xs run a made may) l within (long front xs run)
 
   shut_on : (front acts : List Act) (xs ys : List ShareState) → RunTo start front xs → RunTo xs acts ys → is_shut_at ys l ≡ (is_shut_at xs l || shut_by l acts)
-  shut_on front [] xs ys first run = ap (λ zs. is_shut_at zs l) (sym run) ∙ sym (or_none (is_shut_at xs l) false refl)
+  shut_on front [] xs ys first run = ap (λ zs. is_shut_at zs l) (sym run) ∙ sym (or_only (is_shut_at xs l) false refl)
   shut_on front (a ∷ more) xs ys first run =
       let now = replaced xs (touches a) run.0 in
       shut_on (front ++ a ∷ []) more now ys (join start xs now front (a ∷ []) first (run.0, run.1, refl)) run.2

@@ -1,11 +1,12 @@
 -- Parts that were moved from one hand to another: which are gone, and what both hands fit after an event on the one.
 use Rattle.std.specs.List.{AllByRecursion}
 use Rattle.std.specs.Option.{option_flatten}
-use Rattle.std.proofs.Common.{◌≡◌, ℕ, zero, suc, ◌+◌, ◌<◌, ◌||◌, inl, inr, Bool, true, false, Option, Some, None, is_some, option_map, List, [], ◌∷◌, ◌++◌, length, map, take, add-one, slice_get, slice_set, refl, sym, ap, subst, ◌∙◌, arith}
+use Rattle.std.proofs.Common.{◌≡◌, ℕ, zero, suc, ◌+◌, ◌<◌, ◌||◌, inl, inr, Bool, true, false, Option, Some, None, is_some, option_map, List, [], ◌∷◌, ◌++◌, length, map, take, slice_get, slice_set, refl, sym, ap, subst, ◌∙◌, arith}
 use Rattle.std.proofs.lemmas.Bool.{true≢false}
 use Rattle.std.proofs.lemmas.Bool.Decides.{eqb_tells}
 use Rattle.std.proofs.lemmas.List.{length-map}
-use Rattle.std.proofs.lemmas.Option.{same_Some, slice_get-map, slice_get_within}
+use Rattle.std.proofs.lemmas.Option.{slice_get_within}
+use Rattle.snap_base.proofs.Lists.{all_next, get_mapped, get_behind}
 use Rattle.aml_slice.specs.Controls.{Rest}
 use Rattle.book_part.specs.Halves.{Shows}
 use Rattle.core_rows.specs.OnRuns.{HasRun}
@@ -17,20 +18,11 @@ use Rattle.protocol.specs.Footprints.{HasLogs, LeavesOthers}
 use Rattle.protocol.specs.Laws.{AfterEveryRun}
 use Rattle.protocol.specs.Parts.{Log, Cell, Machine}
 use Rattle.protocol.specs.Words.{is_among}
-use Rattle.snap_hand.proofs.InLists.{behind}
 use Rattle.snap_hand.specs.Hands.{Parts, Fits, Has, IsHandOf, are_there, is_at_hand, is_not_out}
 use Rattle.snap_hand.specs.Shown.{Shown, TheRing, TheBook, ThePost, TheDesk, TheLog, TheCell, part_at, places, without}
 use Rattle.footprint_rows.specs.Footprints.{AreBoth, StaysOrGoesOn}
 
 -- ---- lists
-
-pub each_more : {X : Type 0} (Q : X → Type 0) (xs : List X) (i : ℕ) (x : X) → slice_get xs i ≡ Some x → AllByRecursion Q (take i xs) → Q x → AllByRecursion Q (take (i + 1) xs)
-each_more {X} Q xs i x e so_far q = subst (λ n. AllByRecursion Q (take n xs)) (sym (add-one i)) (at xs i e so_far)
-  where
-    at : (xs : List X) (i : ℕ) → slice_get xs i ≡ Some x → AllByRecursion Q (take i xs) → AllByRecursion Q (take (suc i) xs)
-    at [] i e a = absurd (cc e)
-    at (y ∷ xs) zero e a = (subst Q (same_Some x y (sym e)) q, tt)
-    at (y ∷ xs) (suc i) e a = (a.0, at xs i e a.1)
 
 pub all_taken : {X : Type 0} (Q : X → Type 0) (xs : List X) (n : ℕ) → length xs ≡ n → AllByRecursion Q (take n xs) → AllByRecursion Q xs
 all_taken Q [] n e a = tt
@@ -44,9 +36,6 @@ one_of Q (j ∷ js) i a e = elim (eqb_tells j i) [
   | inl h ↦ subst Q h.1 a.0
   | inr h ↦ one_of Q js i a.1 (sym (ap (λ b. b || is_among i js) h.0) ∙ e)
 ]
-
-map_some : {X Y : Type 0} (f : X → Y) (xs : List X) (i : ℕ) (x : X) → slice_get xs i ≡ Some x → slice_get (map f xs) i ≡ Some (f x)
-map_some f xs i x e = slice_get-map f xs i ∙ ap (option_map f) e
 
 left_some : {X : Type 0} (xs ys : List X) (i : ℕ) (x : X) → slice_get xs i ≡ Some x → slice_get (xs ++ ys) i ≡ Some x
 left_some [] ys i x e = absurd (cc e)
@@ -99,7 +88,7 @@ module _ (taken : (h : Parts) (i : ℕ) → places (without i h) ≡ slice_set (
 
   pub gone_more : (h new : Parts) (is : List ℕ) (n i : ℕ) → slice_get is n ≡ Some i → new ≡ without i h → AreGone h (take n is) → AreGone new (take (n + 1) is)
   gone_more h new is n i e new_is a =
-      subst (λ g. AreGone g (take (n + 1) is)) (sym new_is) (each_more (λ j. part_at (without i h) j ≡ None) is n i e (gone_still h i (take n is) a) (gone_here h i))
+      subst (λ g. AreGone g (take (n + 1) is)) (sym new_is) (all_next (λ j. part_at (without i h) j ≡ None) is n i e (gone_still h i (take n is) a) (gone_here h i))
 
 -- ---- what the hand without the footprint fits after the event
 
@@ -135,18 +124,18 @@ module _ (w : Fixed Rest) (h : Parts) (s t : Machine Rest) (fp : List ℕ) (in_h
       by false e = others i e
 
   log_here : (l : ℕ) (x : _) → slice_get h.logs l ≡ Some (Some x) → part_at h (suc (suc (suc (suc l)))) ≡ Some (TheLog x)
-  log_here l x e = ap option_flatten (left_some (map (option_map TheLog) h.logs) (map (option_map TheCell) h.cells) l (Some (TheLog x)) (map_some (option_map TheLog) h.logs l (Some x) e))
+  log_here l x e = ap option_flatten (left_some (map (option_map TheLog) h.logs) (map (option_map TheCell) h.cells) l (Some (TheLog x)) (get_mapped (option_map TheLog) h.logs l (Some x) e))
 
   cell_here : (a : ℕ) (x : Cell Rest) → slice_get h.cells a ≡ Some (Some x) → part_at h (suc (suc (suc (suc (w.text.logs + a))))) ≡ Some (TheCell x)
   cell_here a x e =
       let logs = length-map h.logs (option_map TheLog) in
       ap option_flatten
-      (behind (map (option_map TheLog) h.logs) (map (option_map TheCell) h.cells) a (w.text.logs + a) (omega (arith, logs, in_hand.logs)) ∙ map_some (option_map TheCell) h.cells a (Some x) e)
+      (get_behind (map (option_map TheLog) h.logs) (map (option_map TheCell) h.cells) a (w.text.logs + a) (omega (arith, logs, in_hand.logs)) ∙ get_mapped (option_map TheCell) h.cells a (Some x) e)
 
   log_stays : (l : ℕ) (y : Log) → slice_get s.logs l ≡ Some y → part t (suc (suc (suc (suc l)))) ≡ part s (suc (suc (suc (suc l)))) → slice_get t.logs l ≡ Some y
   log_stays l y e same =
       log_is t.logs (map CellPart t.cells) l y (omega (arith, slice_get_within s.logs l y e, in_s, in_t))
-      (same ∙ left_some (map LogPart s.logs) (map CellPart s.cells) l (LogPart y) (map_some LogPart s.logs l y e))
+      (same ∙ left_some (map LogPart s.logs) (map CellPart s.cells) l (LogPart y) (get_mapped LogPart s.logs l y e))
 
   cell_stays : (a : ℕ) (x : Cell Rest) → slice_get s.cells a ≡ Some x → part t (suc (suc (suc (suc (w.text.logs + a))))) ≡ part s (suc (suc (suc (suc (w.text.logs + a))))) → slice_get t.cells a ≡ Some x
   cell_stays a x e same =
@@ -154,8 +143,8 @@ module _ (w : Fixed Rest) (h : Parts) (s t : Machine Rest) (fp : List ℕ) (in_h
       let logs_t = length-map {B = Part Rest} t.logs LogPart in
       cell_is t.cells a x
       (
-      sym (behind (map LogPart t.logs) (map CellPart t.cells) a (w.text.logs + a) (omega (arith, logs_t, in_t)))
-      ∙ (same ∙ (behind (map LogPart s.logs) (map CellPart s.cells) a (w.text.logs + a) (omega (arith, logs_s, in_s)) ∙ map_some CellPart s.cells a x e))
+      sym (get_behind (map LogPart t.logs) (map CellPart t.cells) a (w.text.logs + a) (omega (arith, logs_t, in_t)))
+      ∙ (same ∙ (get_behind (map LogPart s.logs) (map CellPart s.cells) a (w.text.logs + a) (omega (arith, logs_s, in_s)) ∙ get_mapped CellPart s.cells a x e))
       )
 
   pub fits_on : Fits h s → Fits h t

@@ -4,6 +4,7 @@ use Rattle.std.proofs.lemmas.List.{append-nil}
 use Rattle.std.proofs.lemmas.Grind.{flat_map-append}
 use Rattle.std.proofs.lemmas.Bool.{cases_lt}
 use Rattle.std.specs.List.{AllByRecursion}
+use Rattle.snap_base.proofs.Lists.{all_push}
 use Rattle.gate_log.specs.Bytes.{header, group_bytes, blocks, items_of, IsGroup, IsLog, IsLogAt}
 
 -- where there is room for no block, there is no item
@@ -27,10 +28,6 @@ log_of bytes end items log = elim (cases_lt 9 (length bytes)) [
 pub closed_log : (mark : ℕ) (groups : List (List (List ℕ))) → AllByRecursion IsGroup groups → (gate : ℕ) (rest : List ℕ) → gate ≢ 1
     → IsLogAt ((header mark ++ blocks groups) ++ gate ∷ rest) (length (header mark ++ blocks groups)) (items_of groups)
 closed_log mark groups all gate rest closed = record { mark = mark; parts = (groups, gate, rest, all, closed, refl, refl, refl) }
-
-all_push : {X : Type 0} (P : X → Type 0) (xs : List X) (x : X) → AllByRecursion P xs → P x → AllByRecursion P (xs ++ x ∷ [])
-all_push P [] x all here = (here, tt)
-all_push P (y ∷ xs) x all here = (all.0, all_push P xs x all.1 here)
 
 regrouped : (head front group tail : List ℕ)
     → (head ++ front) ++ 1 ∷ ((group ++ 0 ∷ []) ++ tail) ≡ (head ++ (front ++ ((1 ∷ group) ++ []))) ++ 0 ∷ tail

@@ -6,12 +6,8 @@ use Rattle.std.proofs.lemmas.Bool.{cases_eq, cases_lt}
 use Rattle.snap_outside.specs.declared.devices.DevOp.{DevOp}
 use Rattle.snap_outside.specs.declared.devices.DevOp.TheVariants.{Write, Sync}
 use Rattle.snap_outside.specs.Disk.{Disk, settled, overwritten, op_done, disk_after, IsImage, EachMoment}
+use Rattle.snap_outside.proofs.Images.{image_is}
 use Rattle.gate_log.specs.Appends.{block_ops}
-
--- a settled disk leaves its bytes
-pub settled_image : (bytes image : List ℕ) → IsImage (settled bytes) image → image ≡ bytes
-settled_image bytes image left =
-    same_number_lists image bytes (omega (arith, left.no_shorter, left.no_longer)) (λ k h. left.fixed k (omega (arith, left.no_longer)) tt)
 
 -- a list that begins with the bytes of another
 begins : (front image : List ℕ) → length front ≤ length image → ((k : ℕ) → k < length front → get_or image k 0 ≡ get_or front k 0)
@@ -117,17 +113,17 @@ module _ (front : List ℕ) (gate end : ℕ) (at : length front ≡ end) where
         let done = written_gate 1 tail in
         let long : length (overwritten (front ++ gate ∷ tail) end (1 ∷ [])) ≡ length (front ++ gate ∷ tail) =
         ap (λ (l : List ℕ). length l) done ∙ omega (arith, length-append front (1 ∷ tail), length-append front (gate ∷ tail)) in (
-          (λ image left. subst P (sym (settled_image _ image left)) (old gate tail closed)),
+          (λ image left. subst P (sym (image_is _ image left)) (old gate tail closed)),
           (
             (λ image left. subst P (sym (opening_image tail _ image long left)) (either_gate (get_or image end 0) after)),
-            (λ image left. subst P (sym (settled_image _ image left ∙ done)) (new after)),
+            (λ image left. subst P (sym (image_is _ image left ∙ done)) (new after)),
           ),
         )
 
     -- each moment of the four operations
     pub append_moments : EachMoment (settled (front ++ gate ∷ rest)) (block_ops end piece) P
     append_moments = (
-      (λ image left. subst P (sym (settled_image _ image left)) (old gate rest closed)),
+      (λ image left. subst P (sym (image_is _ image left)) (old gate rest closed)),
       (
         (λ image left. subst P (sym (staged_image piece rest _ image left)) (old gate (drop (end + 1) image) closed)),
         subst (λ (bytes : List ℕ). EachMoment (settled bytes) (Write end (1 ∷ []) ∷ Sync ∷ []) P) (sym (written_behind piece rest)) opened,

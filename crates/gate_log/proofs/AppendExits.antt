@@ -10,11 +10,12 @@ use Rattle.snap_outside.specs.declared.devices.DevOp.{DevOp}
 use Rattle.snap_outside.specs.declared.devices.DevOp.TheVariants.{Write, Sync}
 use Rattle.snap_outside.specs.Disk.{History, Disk, settled, disk, disk_after, content, EachMoment, Adds, MayAdd, AddsAll, with_ops, IsImage, AddsUpToFault}
 use Rattle.snap_outside.specs.Moments.{disk_join, adds_nothing}
+use Rattle.snap_outside.proofs.Images.{image_is}
 use Rattle.gate_log.specs.Appends.{group_block, block_ops, append_ops, end_behind}
 use Rattle.gate_log.specs.Bytes.{items_bytes, group_bytes, marked_format, IsLog, IsLogAt}
 use Rattle.gate_log.specs.Device.{DeviceLog, HasFormat, IsReadyDevice, MayAppend, Appended, Crashes}
 use Rattle.gate_log.proofs.AppendBytes.{log_of}
-use Rattle.gate_log.proofs.AppendDisks.{settled_image, moments_front}
+use Rattle.gate_log.proofs.AppendDisks.{moments_front}
 use Rattle.gate_log.proofs.AppendLogs.{IsEither, log_moments, log_grown, mark_stays}
 use Rattle.gate_log.proofs.Upgrades.{second}
 
@@ -278,7 +279,7 @@ append_gives h end items (item ∷ more) may log =
 pub append_keeps : (h : History) (end : ℕ) (items added : List (List ℕ)) → MayAppend end added → DeviceLog h end items
     → EachMoment (disk h) (append_ops end added) (λ image. IsLog image items ⊎ IsLog image (items ++ added))
 append_keeps h end items [] may log =
-    λ image left. inl (subst (λ (l : List ℕ). IsLog l items) (sym (settled_image (content h) image (subst (λ (d : Disk). IsImage d image) log.quiet left)))
+    λ image left. inl (subst (λ (l : List ℕ). IsLog l items) (sym (image_is (content h) image (subst (λ (d : Disk). IsImage d image) log.quiet left)))
     (log_of (content h) end items log.log))
 append_keeps h end items (item ∷ more) may log =
     subst (λ (d : Disk). EachMoment d (append_ops end (item ∷ more)) (IsEither items (item ∷ more))) (sym log.quiet)

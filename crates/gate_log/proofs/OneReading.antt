@@ -4,7 +4,8 @@ use Rattle.std.proofs.lemmas.List.{take_at, drop_at}
 use Rattle.std.proofs.lemmas.Nat.{from_be_bytes-to_be_bytes_2, from_be_bytes-to_be_bytes_4}
 use Rattle.std.specs.Int.{to_be_bytes, from_be_bytes, w16, w32}
 use Rattle.std.specs.List.{AllByRecursion}
-use Rattle.gate_log.specs.Bytes.{header, item_bytes, items_bytes, group_bytes, blocks, items_of, IsItem, IsGroup, IsLog, IsLogAt}
+use Rattle.gate_log.specs.Bytes.{header, item_bytes, items_bytes, group_bytes, blocks, items_of, IsGroup, IsLog, IsLogAt}
+use Rattle.gate_log.proofs.ReadingItems.{items_same}
 
 -- equal lists have equal fronts of one length
 pub same_front : (us vs xs ys : List ℕ) → length us ≡ length vs → us ++ xs ≡ vs ++ ys → (us ≡ vs) × (xs ≡ ys)
@@ -20,15 +21,6 @@ one_item u v xs ys u_short v_short same =
     sym (from_be_bytes-to_be_bytes_2 (length u) u_short) ∙ ap (λ (l : List ℕ). from_be_bytes w16 l) heads.0 ∙ from_be_bytes-to_be_bytes_2 (length v) v_short in
     same_front u v xs ys size heads.1
 
-one_items : (us vs : List (List ℕ)) → AllByRecursion IsItem us → AllByRecursion IsItem vs → items_bytes us ≡ items_bytes vs → us ≡ vs
-one_items [] [] us_are vs_are same = refl
-one_items [] (v ∷ vs) us_are vs_are same = absurd (cc)
-one_items (u ∷ us) [] us_are vs_are same = absurd (cc)
-one_items (u ∷ us) (v ∷ vs) us_are vs_are same =
-    let first = one_item u v (items_bytes us) (items_bytes vs) (omega (arith, us_are.0.short)) (omega (arith, vs_are.0.short)) same in
-    let rest = one_items us vs us_are.1 vs_are.1 first.1 in
-    ap (λ (l : List ℕ). l ∷ us) first.0 ∙ ap (λ (l : List (List ℕ)). v ∷ l) rest
-
 pub one_group : (us vs : List (List ℕ)) (xs ys : List ℕ) → IsGroup us → IsGroup vs → group_bytes us ++ xs ≡ group_bytes vs ++ ys → (us ≡ vs) × (xs ≡ ys)
 one_group us vs xs ys us_is vs_is same =
     let n = length (items_bytes us) in
@@ -37,7 +29,7 @@ one_group us vs xs ys us_is vs_is same =
     let size : n ≡ m =
     sym (from_be_bytes-to_be_bytes_4 n us_is.short) ∙ ap (λ (l : List ℕ). from_be_bytes w32 l) heads.0 ∙ from_be_bytes-to_be_bytes_4 m vs_is.short in
     let parts = same_front (items_bytes us) (items_bytes vs) xs ys size heads.1 in
-    (one_items us vs us_is.items vs_is.items parts.0, parts.1)
+    (items_same us vs us_is.items vs_is.items parts.0, parts.1)
 
 behind_gate : (group front rest : List ℕ) → ((1 ∷ group) ++ front) ++ rest ≡ 1 ∷ (group ++ (front ++ rest))
 behind_gate group front rest = ap (λ (l : List ℕ). 1 ∷ l) (append_assoc group front rest)

@@ -6,6 +6,7 @@ use Rattle.snap_outside.specs.declared.devices.DevOp.{DevOp}
 use Rattle.snap_outside.specs.declared.devices.DevOp.TheVariants.{Write, Sync}
 use Rattle.snap_outside.specs.Disk.{History, Disk, disk, content, settled, with_ops, IsImage, EachMoment, AddsAll, AddsUpToFault}
 use Rattle.snap_outside.specs.Moments.{adds_nothing, disk_join}
+use Rattle.snap_outside.proofs.Images.{image_is}
 use Rattle.gate_log.specs.declared.limits.TheConstants.{NEW_LOG_SIZE}
 use Rattle.gate_log.specs.declared.logs.LogItem.{LogItem}
 use Rattle.gate_log.specs.declared.opens.OpenNo.{OpenNo}
@@ -13,7 +14,6 @@ use Rattle.gate_log.specs.declared.opens.OpenNo.TheVariants.{NotALog, Damage, De
 use Rattle.gate_log.specs.Bytes.{marked_format, format_in, IsLog}
 use Rattle.gate_log.specs.Device.{DeviceLog}
 use Rattle.gate_log.specs.Opened.{bytes_of, new_log, opening_ops, Opened, Refused}
-use Rattle.gate_log.proofs.AppendDisks.{settled_image}
 use Rattle.gate_log.proofs.OpenCrashes.{make_moments}
 use Rattle.gate_log.proofs.OpenDisks.{settled_log, disk_written_over, new_is_log, synced_log}
 
@@ -74,7 +74,7 @@ short_items bytes items short (inl log) = sym log.1
 short_items bytes items short (inr log) = absurd (omega (arith, short, log.0))
 
 settled_keeps : (bytes : List ℕ) (items : List (List ℕ)) → IsLog bytes items → (image : List ℕ) → IsImage (settled bytes) image → IsLog image items
-settled_keeps bytes items log image left = subst (λ (l : List ℕ). IsLog l items) (sym (settled_image bytes image left)) log
+settled_keeps bytes items log image left = subst (λ (l : List ℕ). IsLog l items) (sym (image_is bytes image left)) log
 
 pub keeps : (h : History) (items : List (List ℕ)) → disk h ≡ settled (content h) → IsLog (content h) items
     → EachMoment (disk h) (opening_ops (content h)) (λ image. IsLog image items)

@@ -3,6 +3,7 @@ use Rattle.std.proofs.Common.{◌≡◌, ℕ, ◌^◌, ◌<◌, ◌≤◌, List,
 use Rattle.std.specs.Int.{Width, w16, w32, byte_len, from_be_bytes, to_be_bytes}
 use Rattle.std.proofs.lemmas.List.{take_at, drop_at, length-append}
 use Rattle.std.proofs.lemmas.Nat.{from_be_bytes-to_be_bytes_2, from_be_bytes-to_be_bytes_4}
+use Rattle.snap_base.proofs.Lists.{same_front}
 use Rattle.gate_log.specs.Reading.{counted_piece}
 
 -- numbers below the limit are those that the width holds
@@ -33,13 +34,6 @@ counted_read w limit wide piece rest bytes lt e =
       ap (λ (b : List ℕ). from_be_bytes w (take (byte_len w) b)) regrouped ∙ ap (from_be_bytes w) (take_at front (piece ++ rest) (byte_len w) len) ∙ wide.again (length piece) lt,
       ap (drop (byte_len w)) regrouped ∙ drop_at front (piece ++ rest) (byte_len w) len,
     )
-
--- two fronts of one length in the same bytes are one
-pub same_front : (a x b y : List ℕ) → length a ≡ length b → a ++ x ≡ b ++ y → (a ≡ b) × (x ≡ y)
-same_front a x b y len e = (
-  sym (take_at a x (length a) refl) ∙ ap (take (length a)) e ∙ take_at b y (length a) (sym len),
-  sym (drop_at a x (length a) refl) ∙ ap (drop (length a)) e ∙ drop_at b y (length a) (sym len),
-)
 
 -- bytes begin with one counted piece
 pub counted_same : (w : Width) (limit : ℕ) → IsWide w limit → (a x b y : List ℕ) → length a < limit → length b < limit → counted_piece w a ++ x ≡ counted_piece w b ++ y → (a ≡ b) × (x ≡ y)

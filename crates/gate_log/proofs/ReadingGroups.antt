@@ -1,24 +1,16 @@
 -- Groups are read one after the other, and in one way alone.
-use Rattle.std.proofs.Common.{◌≡◌, ◌≢◌, ℕ, ◌+◌, ◌-◌, ◌^◌, ◌<◌, ◌≤◌, List, [], ◌∷◌, ◌++◌, length, get_or, take, drop, refl, sym, ap, subst, ◌∙◌, append_assoc, arith}
+use Rattle.std.proofs.Common.{◌≡◌, ◌≢◌, ℕ, ◌+◌, ◌-◌, ◌<◌, ◌≤◌, List, [], ◌∷◌, ◌++◌, length, get_or, take, drop, refl, sym, ap, subst, ◌∙◌, append_assoc, arith}
 use Rattle.std.specs.List.{AllByRecursion}
 use Rattle.std.specs.Int.{w32, to_be_bytes}
 use Rattle.std.proofs.Math.Seq.{drop-cons}
 use Rattle.std.proofs.lemmas.List.{length-append, append-nil, take_all, take-append-drop, length-drop}
 use Rattle.std.proofs.lemmas.List.Concat.{flat_map-append}
+use Rattle.snap_base.proofs.Lists.{all_push}
 use Rattle.gate_log.specs.declared.logs.LogItem.{LogItem}
 use Rattle.gate_log.specs.Bytes.{magic, header, IsGroup, items_bytes, group_bytes, blocks, placed_items, placed_groups, IsLogAt, IsDamagedAt}
 use Rattle.gate_log.specs.Reading.{BeginsGroup, GroupsSoFar}
-use Rattle.gate_log.proofs.ReadingCounted.{wide32, counted_same}
-use Rattle.gate_log.proofs.ReadingItems.{items_same, AllByRecursion-push}
-use Rattle.gate_log.proofs.OneReading.{same_mark}
-
--- ---- one group
-
--- bytes begin with one group
-pub group_same : (a b : List (List ℕ)) (x y : List ℕ) → IsGroup a → IsGroup b → group_bytes a ++ x ≡ group_bytes b ++ y → (a ≡ b) × (x ≡ y)
-group_same a b x y p q e =
-    let s = counted_same w32 (2 ^ 32) wide32 (items_bytes a) x (items_bytes b) y p.short q.short e in
-    (items_same a b p.items q.items s.0, s.1)
+use Rattle.gate_log.proofs.ReadingCounted.{wide32}
+use Rattle.gate_log.proofs.OneReading.{same_mark, one_group}
 
 -- ---- groups
 
@@ -81,7 +73,7 @@ groups_more bytes place rest found tail behind newer so_far gate begins =
     record {
       some = begins.some;
       mark = so_far.mark;
-      parts = (s.0 ++ b.0 ∷ [], AllByRecursion-push IsGroup s.0 b.0 s.1 b.1, g.0, omega (arith, g.1, s.3, ap length gate, ap length b.2, length-append (group_bytes b.0) behind), items);
+      parts = (s.0 ++ b.0 ∷ [], all_push IsGroup s.0 b.0 s.1 b.1, g.0, omega (arith, g.1, s.3, ap length gate, ap length b.2, length-append (group_bytes b.0) behind), items);
     }
 
 pub groups_length : (total place : ℕ) (rest : List ℕ) (gate : ℕ) (tail behind : List ℕ) (found newer : List LogItem)
@@ -110,7 +102,7 @@ damage_place [] (o ∷ os) rest more gate p q none e closed =
     no_group_again rest (blocks os ++ gate ∷ more) n.1 o n.0 none q.0 (ap (drop 1) e ∙ append_assoc (group_bytes o) (blocks os) (gate ∷ more)) n.2
 damage_place (g ∷ gs) [] rest more gate p q none e closed = closed (sym (ap (λ (b : List ℕ). get_or b 0 0) e))
 damage_place (g ∷ gs) (o ∷ os) rest more gate p q none e closed =
-    let s = group_same g o (blocks gs ++ 1 ∷ rest) (blocks os ++ gate ∷ more) p.0 q.0 (sym (append_assoc (group_bytes g) (blocks gs) (1 ∷ rest)) ∙ ap (drop 1) e ∙ append_assoc (group_bytes o) (blocks os) (gate ∷ more)) in
+    let s = one_group g o (blocks gs ++ 1 ∷ rest) (blocks os ++ gate ∷ more) p.0 q.0 (sym (append_assoc (group_bytes g) (blocks gs) (1 ∷ rest)) ∙ ap (drop 1) e ∙ append_assoc (group_bytes o) (blocks os) (gate ∷ more)) in
     damage_place gs os rest more gate p.1 q.1 none s.1 closed
 
 pub damage_once : (groups others : List (List (List ℕ))) (rest more : List ℕ) → AllByRecursion IsGroup groups → AllByRecursion IsGroup others
@@ -125,7 +117,7 @@ damage_once (g ∷ gs) [] rest more p q none nor e =
     let n = next_gate gs 1 rest in
     absurd (no_group_again more (blocks gs ++ 1 ∷ rest) n.1 g n.0 nor p.0 (sym (ap (drop 1) e) ∙ append_assoc (group_bytes g) (blocks gs) (1 ∷ rest)) n.2)
 damage_once (g ∷ gs) (o ∷ os) rest more p q none nor e =
-    let s = group_same g o (blocks gs ++ 1 ∷ rest) (blocks os ++ 1 ∷ more) p.0 q.0 (sym (append_assoc (group_bytes g) (blocks gs) (1 ∷ rest)) ∙ ap (drop 1) e ∙ append_assoc (group_bytes o) (blocks os) (1 ∷ more)) in
+    let s = one_group g o (blocks gs ++ 1 ∷ rest) (blocks os ++ 1 ∷ more) p.0 q.0 (sym (append_assoc (group_bytes g) (blocks gs) (1 ∷ rest)) ∙ ap (drop 1) e ∙ append_assoc (group_bytes o) (blocks os) (1 ∷ more)) in
     ap (λ (x : List (List ℕ)). x ∷ gs) s.0 ∙ ap (λ (xs : List (List (List ℕ))). o ∷ xs) (damage_once gs os rest more p.1 q.1 none nor s.1)
 
 -- the same behind two headers

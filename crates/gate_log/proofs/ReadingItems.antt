@@ -4,6 +4,7 @@ use Rattle.std.specs.List.{AllByRecursion}
 use Rattle.std.specs.Int.{Width, w16, to_be_bytes}
 use Rattle.std.proofs.lemmas.List.{length-append, append-nil}
 use Rattle.std.proofs.lemmas.List.Concat.{flat_map-append}
+use Rattle.snap_base.proofs.Lists.{all_push}
 use Rattle.gate_log.specs.declared.logs.LogItem.{LogItem}
 use Rattle.gate_log.specs.Bytes.{IsItem, item_bytes, items_bytes, placed_items}
 use Rattle.gate_log.specs.Reading.{counted_piece, BeginsItem, BeginsNoItem, FillsNoItems}
@@ -50,10 +51,6 @@ items_same (i ∷ is) (o ∷ os) p q e =
 pub record ItemsSoFar (first : ℕ) (bytes : List ℕ) (old : List LogItem) (place : ℕ) (rest : List ℕ) (new : List LogItem) : Type 0 where
   pub parts : (items : List (List ℕ)) × AllByRecursion IsItem items × (bytes ≡ items_bytes items ++ rest) × (place ≡ first + length (items_bytes items)) × (new ≡ old ++ placed_items first items)
 
-pub AllByRecursion-push : {A : Type 0} (P : A → Type 0) (xs : List A) (x : A) → AllByRecursion P xs → P x → AllByRecursion P (xs ++ x ∷ [])
-AllByRecursion-push P [] x p q = (q, tt)
-AllByRecursion-push P (y ∷ ys) x p q = (p.0, AllByRecursion-push P ys x p.1 q)
-
 length-item_bytes : (item : List ℕ) → length (item_bytes item) ≡ 2 + length item
 length-item_bytes item = length-append (to_be_bytes w16 (length item)) item ∙ ap (λ (n : ℕ). n + length item) (wide16.len (length item))
 
@@ -75,7 +72,7 @@ items_more first bytes old place rest new item behind newer so_far begins e =
     e ∙ ap (λ (x : List LogItem). x ++ record { at = place + 2; bytes = item } ∷ []) s.4 ∙ append_assoc old (placed_items first s.0) (record { at = place + 2; bytes = item } ∷ [])
     ∙ ap (λ (n : ℕ). old ++ (placed_items first s.0 ++ record { at = n + 2; bytes = item } ∷ [])) s.3
     ∙ ap (λ (x : List LogItem). old ++ x) (sym (placed_items-push first s.0 item)) in
-    record { parts = (s.0 ++ item ∷ [], AllByRecursion-push IsItem s.0 item s.1 begins.is_item, whole, omega (arith, s.3, ap length all, length-append (items_bytes s.0) (item_bytes item), length-item_bytes item), placed) }
+    record { parts = (s.0 ++ item ∷ [], all_push IsItem s.0 item s.1 begins.is_item, whole, omega (arith, s.3, ap length all, length-append (items_bytes s.0) (item_bytes item), length-item_bytes item), placed) }
 
 no_more : (rest : List ℕ) (more : List (List ℕ)) → rest ≢ [] → BeginsNoItem rest → AllByRecursion IsItem more → rest ≡ items_bytes more → ⊥
 no_more rest [] some none p e = some e

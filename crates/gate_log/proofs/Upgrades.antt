@@ -5,12 +5,13 @@ use Rattle.std.proofs.lemmas.List.{append-nil}
 use Rattle.snap_outside.specs.declared.devices.DevOp.{DevOp}
 use Rattle.snap_outside.specs.Disk.{History, Disk, settled, disk, disk_after, content, overwritten, EachMoment, with_ops}
 use Rattle.snap_outside.specs.Moments.{disk_join}
+use Rattle.snap_outside.proofs.Images.{image_is}
 use Rattle.gate_log.specs.declared.limits.TheConstants.{NEW_LOG_SIZE}
 use Rattle.gate_log.specs.Appends.{append_ops, upgrade_ops}
 use Rattle.gate_log.specs.Bytes.{magic, blocks, marked_format, format_in, IsLog, IsLogAt}
 use Rattle.gate_log.specs.Device.{DeviceLog, MayAppend}
 use Rattle.gate_log.proofs.AppendBytes.{log_of}
-use Rattle.gate_log.proofs.AppendDisks.{settled_image, written_gate, opening_image}
+use Rattle.gate_log.proofs.AppendDisks.{written_gate, opening_image}
 use Rattle.gate_log.proofs.AppendLogs.{mark_stays}
 use Rattle.gate_log.proofs.OpenDisks.{settled_log}
 
@@ -21,10 +22,10 @@ mark_moments : (mark : ℕ) (tail : List ℕ) (P : List ℕ → Type 0) → ((x 
 mark_moments mark tail P all =
     let done = written_gate magic mark 7 refl 50 tail in
     let long : length (overwritten (magic ++ mark ∷ tail) 7 (50 ∷ [])) ≡ length (magic ++ mark ∷ tail) = ap (λ (l : List ℕ). length l) done in (
-      (λ image left. subst P (sym (settled_image (magic ++ mark ∷ tail) image left)) (all mark)),
+      (λ image left. subst P (sym (image_is (magic ++ mark ∷ tail) image left)) (all mark)),
       (
         (λ image left. subst P (sym (opening_image magic mark 7 refl tail (overwritten (magic ++ mark ∷ tail) 7 (50 ∷ [])) image long left)) (all (get_or image 7 0))),
-        (λ image left. subst P (sym (settled_image (overwritten (magic ++ mark ∷ tail) 7 (50 ∷ [])) image left ∙ done)) (all 50)),
+        (λ image left. subst P (sym (image_is (overwritten (magic ++ mark ∷ tail) 7 (50 ∷ [])) image left ∙ done)) (all 50)),
       ),
     )
 

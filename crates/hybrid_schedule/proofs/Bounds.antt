@@ -5,6 +5,7 @@ use Rattle.std.specs.List.{list_any}
 use Rattle.std.proofs.lemmas.Bool.{leb-true, le-leb, ne_eqb, and_parts, and_from, or_from, or_parts, true≢false}
 use Rattle.std.proofs.lemmas.List.{take_more, map-append}
 use Rattle.snap_base.specs.declared.ids.Tid.{Tid}
+use Rattle.snap_base.proofs.Booleans.{or_false}
 use Rattle.protocol.specs.Parts.{Slot}
 use Rattle.protocol.specs.OnCell.{done_if, not_done}
 use Rattle.protocol.specs.Meant.{tid_number}
@@ -41,15 +42,11 @@ none_undone t (s ∷ slots) h =
     let parts = or_parts (is_slot_of t s) (list_any (is_slot_of t) slots) h in
     or_from (is_undone_of t s) (list_any (is_undone_of t) slots) (ap (λ b. b && not s.done) parts.0) (none_undone t slots parts.1)
 
-or_none : (b : Bool) → (b || false) ≡ b
-or_none true = refl
-or_none false = refl
-
 pub none_marked : (t : ℕ) (slots : List Slot) → list_any (is_slot_of t) slots ≡ false → map (done_if t) slots ≡ slots
 none_marked t [] h = refl
 none_marked t (s ∷ slots) h =
     let parts = or_parts (is_slot_of t s) (list_any (is_slot_of t) slots) h in
-    let done = ap (λ b. s.done || b) parts.0 ∙ or_none s.done in
+    let done = ap (λ b. s.done || b) parts.0 ∙ or_false s.done in
     let first : done_if t s ≡ s = ap (λ (b : Bool). let x : Slot = record { tid = s.tid; done = b } in x) done in
     ap (λ x. x ∷ map (done_if t) slots) first ∙ ap (λ xs. s ∷ xs) (none_marked t slots parts.1)
 

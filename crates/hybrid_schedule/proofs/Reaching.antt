@@ -3,6 +3,7 @@ use Rattle.std.proofs.Common.{◌≡◌, ℕ, Bool, true, false, not, ◌&&◌, 
 use Rattle.std.specs.Prelude.{if◌then◌else◌}
 use Rattle.std.specs.List.{list_all}
 use Rattle.std.proofs.lemmas.Bool.{true≢false}
+use Rattle.snap_base.proofs.Booleans.{and_true}
 use Rattle.protocol.specs.Parts.{Entry, BatchEntry, ActEntry, Who}
 use Rattle.protocol.specs.Words.{is_empty, holds, is_batch_entry, is_entry_of, is_clear, is_reader_entry, is_complete_batch, is_over_for, ahead, acts_on, who_of, who_on}
 use Rattle.hybrid_schedule.specs.Schedules.{is_any_act, is_next_here, is_behind_no_act}
@@ -86,10 +87,6 @@ behind_reader false r l = refl
 and_first : (p c l : Bool) → (p && (c && l)) ≡ (c && (p && l))
 and_first true c l = refl
 and_first false c l = and_none c
-
-and_true : (b : Bool) → (b && true) ≡ b
-and_true true = refl
-and_true false = refl
 
 -- all ahead is over for it, and where readers stood there before, it is one
 abbrev goes_through : (Entry → Bool) → Bool → List Entry → Entry → Bool

@@ -1,11 +1,13 @@
 -- What the post, an actor and the desk list is what they have to tell.
-use Rattle.std.specs.Prelude.{◌≡◌, refl, ℕ, ◌==◌, not, Bool, true, false, ◌&&◌, ◌||◌, if◌then◌else◌, is_some, Option, Some, None, List, [], ◌∷◌, map, filter, find, Contains}
+use Rattle.std.specs.Prelude.{◌≡◌, refl, ℕ, ◌==◌, not, Bool, true, false, ◌&&◌, ◌||◌, if◌then◌else◌, is_some, Some, List, [], ◌∷◌, map, filter, find, Contains}
 use Rattle.std.specs.List.{list_any, list_all}
 use Rattle.std.proofs.Common.{sym, ap, subst, inl}
 use Rattle.std.proofs.lemmas.Bool.{eqb-true, and_parts, not-true, true≢false}
-use Rattle.protocol.specs.Parts.{SubBatch, ControlMessage, Post, Declared, Stage, Formed, Committing, Settled, Batch, Desk, Entry, BatchEntry, ActEntry, Slot, Cell}
+use Rattle.protocol.specs.Parts.{SubBatch, ControlMessage, Post, Declared, Stage, Batch, Desk, Entry, BatchEntry, ActEntry, Slot, Cell}
 use Rattle.protocol.specs.Events.{Event}
 use Rattle.protocol.specs.Words.{holds, sub_of, control_of, has_control_to, is_formed, is_committing, is_settled, is_open, is_next_to_commit, batch_of, declared_of, waiting_of, outcome_of, is_going, is_ended, is_batch_entry, is_complete_batch, is_undone, has_undone}
+use Rattle.protocol_laws.proofs.first.Lists.{some_held}
+use Rattle.protocol_laws.proofs.first.Statuses.{committing_not_settled}
 use Rattle.protocol_ready.specs.Telling.{PostTells, CellTells, DeskTells}
 use Rattle.protocol_ready.proofs.Listing.{Has, from_has, has_map, has_filter, has_flat_map, held, some, found_in, any_of}
 use Rattle.protocol_ready.proofs.Offered.{sub_found}
@@ -13,6 +15,7 @@ use Rattle.post_box.specs.Listed.{sub_places, control_places}
 use Rattle.hybrid_schedule.specs.Listed.{incomplete_of, incomplete_on, undone_in, undone_of, undone_on}
 use Rattle.batch_table.specs.Listed as batches
 use Rattle.batch_table.specs.Listed.{going_batches, actors_in}
+use Rattle.batch_table.proofs.FrontOver.{formed_not_settled}
 use Rattle.listing_facts.specs.Listing.{PostLists, CellLists, DeskLists}
 
 -- ---- the post
@@ -69,10 +72,6 @@ incomplete_in_all k entries h =
     let r = found_in (is_batch_entry k) entries e.it e.is in
     from_has (incomplete_on entries) k (has_flat_map incomplete_of entries e.it k r.0 (incomplete_here k e.it r.1 e.does))
 
-there : {X : Type 0} (p : X → Bool) (o : Option X) → holds p o ≡ true → is_some o ≡ true
-there p None h = absurd (true≢false (sym h))
-there p (Some x) h = refl
-
 module _ {C : Type 0} where
   waits_in : (t : ℕ) (c : Cell C) → is_some (waiting_of t c.inbox) ≡ true → Contains (map (λ x. x.tid) c.inbox) t
   waits_in t c h =
@@ -89,8 +88,8 @@ module _ {C : Type 0} where
   pub cell_enough : (asked : Event → Bool) (cascades a : ℕ) (c : Cell C) (es : List Event) → CellLists asked cascades a c es → CellTells asked cascades a c es
   cell_enough asked cascades a c es l = record {
     run = λ t q h. l.waiting t (waits_in t c h) q;
-    send = λ t q h. (l.outcomes t (left_in t c (there (λ x. is_going x.next) (outcome_of t c.outbox) h))).0 q;
-    end = λ t q h. (l.outcomes t (left_in t c (there (λ x. is_ended x.next) (outcome_of t c.outbox) h))).1 q;
+    send = λ t q h. (l.outcomes t (left_in t c (some_held (λ x. is_going x.next) (outcome_of t c.outbox) h))).0 q;
+    end = λ t q h. (l.outcomes t (left_in t c (some_held (λ x. is_ended x.next) (outcome_of t c.outbox) h))).1 q;
     close = λ t q h. l.undone t (undone_in_all t c.entries h) q;
     complete = λ k q h. l.incomplete k (incomplete_in_all k c.entries h) q;
     rollback = λ q h. l.behind h q;
@@ -115,16 +114,6 @@ unsettled : (st : Stage) (a t : Bool) → is_settled st ≡ false → not a ≡ 
 unsettled st true t s h = absurd (true≢false (sym h))
 unsettled st false t s h = ap (λ b. not (b && t)) s
 
-formed_unsettled : (st : Stage) → is_formed st ≡ true → is_settled st ≡ false
-formed_unsettled Formed h = refl
-formed_unsettled Committing h = refl
-formed_unsettled Settled h = sym h
-
-committing_unsettled : (st : Stage) → is_committing st ≡ true → is_settled st ≡ false
-committing_unsettled Formed h = refl
-committing_unsettled Committing h = refl
-committing_unsettled Settled h = sym h
-
 untrimmed : (a s t : Bool) → not a ≡ true → t ≡ false → not (a || (s && t)) ≡ true
 untrimmed true s t h e = absurd (true≢false (sym h))
 untrimmed false true t h e = ap not e
@@ -133,14 +122,14 @@ untrimmed false false t h e = refl
 open_going : (b : Batch) → is_open b ≡ true → batches.is_going_batch b ≡ true
 open_going b h =
     let q = and_parts (is_formed b.stage) (not b.aborted) h in
-    unsettled b.stage b.aborted (list_all (λ p. p.trimmed) b.places) (formed_unsettled b.stage q.0) q.1
+    unsettled b.stage b.aborted (list_all (λ p. p.trimmed) b.places) (formed_not_settled b.stage q.0) q.1
 
 going_has : (k : ℕ) (d : Desk) (b : Batch) → batch_of k d.batches ≡ Some b → batches.is_going_batch b ≡ true → Contains (going_batches d) k
 going_has k d b e g =
     let r = found_in (λ b. b.bid == k) d.batches b e in
     from_has (going_batches d) k (subst (λ n. Has (going_batches d) n) (eqb-true b.bid k r.1) (has_map (λ b. b.bid) (filter batches.is_going_batch d.batches) b (has_filter batches.is_going_batch d.batches b r.0 g)))
 
-actor_has : (k a : ℕ) (d : Desk) (b : Batch) (p : Declared) → batch_of k d.batches ≡ Some b → declared_of a b ≡ Some p → Contains (actors_in (batch_of k d.batches)) a
+pub actor_has : (k a : ℕ) (d : Desk) (b : Batch) (p : Declared) → batch_of k d.batches ≡ Some b → declared_of a b ≡ Some p → Contains (actors_in (batch_of k d.batches)) a
 actor_has k a d b p e f =
     let r = found_in (λ p. p.actor == a) b.places p f in
     subst (λ o. Contains (actors_in o) a) (sym e) (from_has (map (λ p. p.actor) b.places) a (subst (λ n. Has (map (λ p. p.actor) b.places) n) (eqb-true p.actor a r.1) (has_map (λ p. p.actor) b.places p r.0)))
@@ -162,7 +151,7 @@ desk_enough asked d es l = record {
   settle = λ k q h.
       let b = held (λ b. is_committing b.stage && not b.aborted) (batch_of k d.batches) h in
       let parts = and_parts (is_committing b.it.stage) (not b.it.aborted) b.does in
-      (l.batches k (going_has k d b.it b.is (unsettled b.it.stage b.it.aborted (list_all (λ p. p.trimmed) b.it.places) (committing_unsettled b.it.stage parts.0) parts.1))).1 q;
+      (l.batches k (going_has k d b.it b.is (unsettled b.it.stage b.it.aborted (list_all (λ p. p.trimmed) b.it.places) (committing_not_settled b.it.stage parts.0) parts.1))).1 q;
   trim = λ k a q h.
       let b = held (λ b. is_settled b.stage && (not b.aborted && holds (λ p. not p.trimmed) (declared_of a b))) (batch_of k d.batches) h in
       let parts = and_parts (is_settled b.it.stage) (not b.it.aborted && holds (λ p. not p.trimmed) (declared_of a b.it)) b.does in

@@ -1,7 +1,6 @@
 -- Devices that are opened one after the other.
 use Rattle.std.proofs.Common.{◌≡◌, false, ℕ, ◌+◌, ◌<◌, ◌≤◌, inl, inr, List, [], ◌∷◌, ◌++◌, suc, length, set, take, drop, refl, sym, ◌∙◌, ap, subst, arith, Option, Some, None}
 use Rattle.std.proofs.lemmas.List.{append-nil, take-set, drop-set-lt, drop-drop}
-use Rattle.std.proofs.lemmas.Grind.{same_number_lists}
 use Rattle.std.specs.List.{AllZip}
 use Rattle.snap_outside.specs.Disk.{History, content, IsImage}
 use Rattle.gate_log.specs.declared.limits.TheConstants.{FARTHEST_END}
@@ -14,7 +13,7 @@ use Rattle.gate_log.specs.Device.{DeviceLog, HasFormat}
 use Rattle.gate_log.specs.State.{LogState}
 use Rattle.gate_log.specs.Opened.{Opened, Refused, bytes_of}
 use Rattle.record_log.specs.Records.{HoldsRecords, KeepsRecords}
-use Rattle.snap_outside.specs.Disk.{settled}
+use Rattle.snap_outside.proofs.Images.{image_is}
 use Rattle.log_opening.specs.declared.refusals.LogsNo.{LogsNo}
 use Rattle.log_opening.specs.declared.refusals.LogsNo.TheVariants as ending
 use Rattle.log_opening.specs.Devices.{Device, as_device, device_at, IsOpenedAtMost, IsOpened, AreOpened, IsReached}
@@ -95,11 +94,6 @@ found_reached before mid found new are = record {
 }
 
 -- ---- no record is lost
-
-image_is : (bytes image : List ℕ) → IsImage (settled bytes) image → image ≡ bytes
-image_is bytes image left =
-    let size : length image ≡ length bytes = omega (arith, left.no_shorter, left.no_longer) in
-    same_number_lists image bytes size (λ k lt. left.fixed k (omega (arith, lt, size)) tt)
 
 keeps_same : (told : Option History) → KeepsRecords told told
 keeps_same None = tt

@@ -1,6 +1,6 @@
 -- The devices of open logs and of the others, as one list.
 use Rattle.std.proofs.Common.{◌≡◌, ℕ, ◌+◌, ◌-◌, ◌<◌, ◌≤◌, List, [], ◌∷◌, ◌++◌, suc, length, get_or, set, map, drop, append_assoc, refl, sym, ◌∙◌, ap, subst, arith, Option}
-use Rattle.std.specs.List.{insert, remove, AllByRecursion, AllZip}
+use Rattle.std.specs.List.{insert, remove, AllZip}
 use Rattle.std.proofs.lemmas.List.{map-append, drop-drop}
 use Rattle.snap_outside.specs.Disk.{History}
 use Rattle.gate_log.specs.State.{LogState}
@@ -71,10 +71,6 @@ zip_weaker R S [] [] then all = tt
 zip_weaker R S [] (y ∷ ys) then all = absurd all
 zip_weaker R S (x ∷ xs) [] then all = absurd all
 zip_weaker R S (x ∷ xs) (y ∷ ys) then all = (then x y all.0, zip_weaker R S xs ys then all.1)
-
-pub all_append : {X : Type 0} (P : X → Type 0) (xs ys : List X) → AllByRecursion P xs → AllByRecursion P ys → AllByRecursion P (xs ++ ys)
-all_append P [] ys first others = others
-all_append P (x ∷ xs) ys first others = (first.0, all_append P xs ys first.1 others)
 
 -- ---- the devices behind those of the open logs
 

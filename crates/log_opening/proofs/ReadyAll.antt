@@ -1,7 +1,8 @@
 -- Open logs that are made ready for appends, on all devices.
-use Rattle.std.proofs.Common.{◌≡◌, ℕ, zero, suc, ◌+◌, ◌<◌, ◌≤◌, inl, inr, List, [], ◌∷◌, ◌++◌, length, map, take, drop, refl, sym, ap, subst, arith}
+use Rattle.std.proofs.Common.{◌≡◌, ℕ, zero, suc, ◌+◌, ◌<◌, ◌≤◌, inl, inr, List, [], ◌∷◌, ◌++◌, length, map, take, drop, refl, sym, subst, arith}
 use Rattle.std.specs.Prelude.{◌⊎◌}
 use Rattle.std.specs.List.{AllByRecursion, AllZip}
+use Rattle.snap_base.proofs.Booleans.{three_ways}
 use Rattle.snap_outside.specs.Causes.{Rose}
 use Rattle.gate_log.specs.declared.logs.LogItem.{LogItem}
 use Rattle.gate_log.specs.State.{LogState, log_at}
@@ -29,15 +30,6 @@ same_logs (x ∷ xs) (y ∷ ys) long each =
     let first : x ≡ y = each 0 in
     let others : xs ≡ ys = same_logs xs ys (omega (arith, long)) (λ l. each (suc l)) in
     cc
-
-pub three : (l n : ℕ) → (l < n) ⊎ ((l ≡ n) ⊎ (n < l))
-three zero zero = inr (inl refl)
-three zero (suc n) = inl (omega arith)
-three (suc l) zero = inr (inr (omega arith))
-three (suc l) (suc n) = elim (three l n) [
-  | inl lt ↦ inl (omega (arith, lt))
-  | inr rest ↦ elim rest [ inl same ↦ inr (inl (ap (λ (i : ℕ). suc i) same)) | inr gt ↦ inr (inr (omega (arith, gt))) ]
-]
 
 -- how each went
 abbrev pub EachLog : (LogState → LogState → List LogItem → Type 0) → List LogState → List LogState → List (List LogItem) → Type 0
@@ -231,7 +223,7 @@ module _ (laws : ReadyLaws) where
           },
           here.1,
         ),
-        all_handled before others old new found are ready (each_log Handled old new found stopped.many as_many (λ l lt. went_at n l old new found stopped (three l n))),
+        all_handled before others old new found are ready (each_log Handled old new found stopped.many as_many (λ l lt. went_at n l old new found stopped (three_ways l n))),
       )
 
   -- ---- as answers

@@ -2,6 +2,7 @@
 use Rattle.std.proofs.Common.{◌≡◌, ◌≢◌, ℕ, zero, suc, ◌<◌, ◌≤◌, inl, inr, List, [], ◌∷◌, length, take, refl, sym, ◌∙◌, ap, subst, arith}
 use Rattle.std.specs.Prelude.{◌⊎◌, ◌==◌, false, IfSome, Option, Some, None}
 use Rattle.std.specs.List.{AllByRecursion, AllZip}
+use Rattle.snap_base.proofs.Booleans.{three_ways}
 use Rattle.snap_outside.specs.Causes.{Rose}
 use Rattle.snap_outside.specs.Disk.{History, content}
 use Rattle.gate_log.specs.declared.logs.LogItem.{LogItem}
@@ -14,7 +15,7 @@ use Rattle.log_opening.specs.Reads.{AreOpenOn}
 use Rattle.log_opening.specs.Upgrades.{AreOld, AreAllReady, AreReadyBelow, FailsBeginning, IsBeginningCutOff, IsLeftOld, IsMadeReady, IsNotMadeReady, IsStopped, items_at, old_count}
 use Rattle.log_opening.proofs.Opening.{untouched}
 use Rattle.log_opening.proofs.ReadyOne.{ReadyLaws, begun_on, cut_off_at, failed_safe, format_was, has_risen, kept_safe}
-use Rattle.log_opening.proofs.ReadyAll.{with_logs, three, EachLog, each_log, all_second, all_begun, above_opened, rest_same, begun_all}
+use Rattle.log_opening.proofs.ReadyAll.{with_logs, EachLog, each_log, all_second, all_begun, above_opened, rest_same, begun_all}
 
 -- ---- logs by their numbers
 
@@ -174,7 +175,7 @@ module _ (laws : ReadyLaws) where
       above = above_opened laws n before others old new found asked are ready stopped.many stopped.above;
       others = rest_same laws before others old new found are ready stopped.many;
     },
-    all_kept before others old new found are ready (each_log (λ l k f. Tried l k) old new found stopped.many (as_many old found ready) (λ l lt. went l (three l n))),
+    all_kept before others old new found are ready (each_log (λ l k f. Tried l k) old new found stopped.many (as_many old found ready) (λ l lt. went l (three_ways l n))),
   )
     where
       asked : n < length found

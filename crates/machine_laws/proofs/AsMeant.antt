@@ -4,6 +4,7 @@ use Rattle.std.specs.List.{AllByRecursion}
 use Rattle.std.proofs.Common.{subst, ◌∙◌, ap}
 use Rattle.snap_base.specs.declared.transactions.State.{State}
 use Rattle.snap_base.specs.declared.transactions.Tx.{Tx}
+use Rattle.snap_base.proofs.Lists.{each_at}
 use Rattle.aml_tree.specs.Tree.{CheckedMethod}
 use Rattle.aml_check.specs.Meaning as meaning
 use Rattle.aml_check.specs.Transactions.{IsTransaction}
@@ -16,32 +17,20 @@ use Rattle.protocol.specs.Runs.{EachAllowed}
 use Rattle.protocol.specs.Effects.{after}
 use Rattle.protocol.specs.Records.{LogRecord}
 use Rattle.protocol.specs.History.{Done, History}
-use Rattle.protocol.specs.Chains.{is_place_below, put_by_place, by_place, txs_of, serial_run}
+use Rattle.protocol.specs.Chains.{by_place, txs_of, serial_run}
 use Rattle.protocol_laws.specs.Commits.{left_of}
 use Rattle.protocol_laws.specs.Linked.{IsExplained}
 use Rattle.protocol_theorems.specs.Order.{OrderHolds}
+use Rattle.protocol_theorems.proofs.order.ByPlace.{all_sorted}
 use Rattle.protocol_records.specs.AsTold.{told_committed, ToldStands}
 use Rattle.protocol_records.specs.Crash.{CrashHolds, members}
 use Rattle.machine_laws.specs.MethodCode.{finish, method_code}
 use Rattle.machine_laws.specs.Programs.{IsTextOf, with_code, finish_of}
 use Rattle.machine_laws.specs.Meant.{meant_run, MeansWhatItDid, CommittedAsMeant, RecoveredAsMeant}
-use Rattle.machine_laws.proofs.Instances.{each_at}
 
 -- these are transactions of the text
 abbrev pub AreThere : Text → List Done → Type 0
 AreThere w ds = AllByRecursion (λ d. d.tx < length w.txs) ds
-
-all_put : (P : Done → Type 0) (d : Done) (ds : List Done) → P d → AllByRecursion P ds → AllByRecursion P (put_by_place d ds)
-all_put P d [] h k = (h, tt)
-all_put P d (x ∷ xs) h k = by (is_place_below d.place x.place) (all_put P d xs h k.1)
-  where
-    by : (b : Bool) → AllByRecursion P (put_by_place d xs) → AllByRecursion P (if b then d ∷ x ∷ xs else x ∷ put_by_place d xs)
-    by true behind = (h, k)
-    by false behind = (k.0, behind)
-
-pub all_by_place : (P : Done → Type 0) (ds : List Done) → AllByRecursion P ds → AllByRecursion P (by_place ds)
-all_by_place P [] h = tt
-all_by_place P (d ∷ ds) h = all_put P d (by_place ds) h.0 (all_by_place P ds h.1)
 
 pub all_filter : (P : Done → Type 0) (test : Done → Bool) (ds : List Done) → AllByRecursion P ds → AllByRecursion P (filter test ds)
 all_filter P test [] h = tt
@@ -67,7 +56,7 @@ asked p w [] is h = tt
 asked p w (d ∷ ds) is h = (each_at (IsTransaction p (length w.opening.states)) w.txs d.tx no_tx h.0 is.asks, asked p w ds is h.1)
 
 run_meant : (p : List CheckedMethod) (w : Text) (ds : List Done) → SerialMeant p → IsTextOf p w → AreThere w ds → serial_run (with_code p w) (finish_of p w) ds ≡ meant_run p (with_code p w) ds
-run_meant p w ds meant is h = meant (length w.opening.states) w.opening.states (txs_of (with_code p w) (by_place ds)) refl (asked p w (by_place ds) is (all_by_place (λ d. d.tx < length w.txs) ds h))
+run_meant p w ds meant is h = meant (length w.opening.states) w.opening.states (txs_of (with_code p w) (by_place ds)) refl (asked p w (by_place ds) is (all_sorted (λ d. d.tx < length w.txs) ds h))
 
 -- ---- one alone
 

@@ -1,8 +1,7 @@
 -- The facts of a program's code over a text's own transactions.
-use Rattle.std.proofs.Common.{ℕ, zero, suc, ◌<◌, List, [], ◌∷◌, length, subst, arith}
-use Rattle.std.specs.Prelude.{slice_index_or}
-use Rattle.std.specs.List.{AllByRecursion}
+use Rattle.std.proofs.Common.{ℕ, List, length, subst}
 use Rattle.snap_base.specs.declared.transactions.Tx.{Tx}
+use Rattle.snap_base.proofs.Lists.{each_at}
 use Rattle.aml_tree.specs.Tree.{CheckedMethod}
 use Rattle.aml_check.specs.Transactions.{IsTransaction}
 use Rattle.protocol.specs.Fixed.{Text, no_tx}
@@ -10,12 +9,6 @@ use Rattle.protocol.specs.Facts.{Facts}
 use Rattle.protocol.specs.Rests.{HasFacts, IsTxIn, facts_of_rests}
 use Rattle.machine_laws.specs.MethodCode.{method_code, finish, IsRestOf}
 use Rattle.machine_laws.specs.Programs.{IsTextOf, with_code, finish_of}
-
--- what holds of each holds of the one at a number below the length
-pub each_at : {X : Type 0} (P : X → Type 0) (xs : List X) (i : ℕ) (d : X) → i < length xs → AllByRecursion P xs → P (slice_index_or xs i d)
-each_at P [] i d below all = absurd (omega arith)
-each_at P (x ∷ xs) zero d below all = all.0
-each_at P (x ∷ xs) (suc i) d below all = each_at P xs i d (omega arith) all.1
 
 -- code with the facts
 abbrev pub HaveFacts : List CheckedMethod → Type 0

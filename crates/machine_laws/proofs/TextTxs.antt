@@ -3,6 +3,7 @@ use Rattle.std.specs.Prelude.{◌≡◌, refl, ℕ, ◌<◌, ◌≤◌, ◌==◌
 use Rattle.std.specs.List.{AllByRecursion, list_any}
 use Rattle.std.proofs.Common.{arith, sym, subst, inl, inr}
 use Rattle.std.proofs.lemmas.Bool.{and_parts, ltb-true, eqb-true, eq-eqb, cases_lt}
+use Rattle.snap_base.proofs.Lists.{all_front, all_back}
 use Rattle.protocol.specs.Fixed.{Fixed}
 use Rattle.protocol.specs.Parts.{Pact, Batch, Machine}
 use Rattle.protocol.specs.Events.{Event, Submit}
@@ -56,21 +57,13 @@ all_below next (x ∷ xs) h = (by (cases_lt x next), all_below next xs (λ n l. 
 
 -- ---- from a list to who is in it
 
-first_all : {X : Type 0} (P : X → Type 0) (xs ys : List X) → AllByRecursion P (xs ++ ys) → AllByRecursion P xs
-first_all P [] ys h = tt
-first_all P (x ∷ xs) ys h = (h.0, first_all P xs ys h.1)
-
-last_all : {X : Type 0} (P : X → Type 0) (xs ys : List X) → AllByRecursion P (xs ++ ys) → AllByRecursion P ys
-last_all P [] ys h = h
-last_all P (x ∷ xs) ys h = last_all P xs ys h.1
-
 of_each : {X Y : Type 0} (P : Y → Type 0) (f : X → Y) (xs : List X) → AllByRecursion P (map f xs) → AllByRecursion (λ x. P (f x)) xs
 of_each P f [] h = tt
 of_each P f (x ∷ xs) h = (h.0, of_each P f xs h.1)
 
 of_batches : (P : ℕ → Type 0) (bs : List Batch) → AllByRecursion P (flat (map (λ b. map (λ p. p.tx) b.pacts) bs)) → AllByRecursion (λ b. AllByRecursion (λ p. P p.tx) b.pacts) bs
 of_batches P [] h = tt
-of_batches P (b ∷ bs) h = (of_each P (λ p. p.tx) b.pacts (first_all P _ _ h), of_batches P bs (last_all P (map (λ p. p.tx) b.pacts) _ h))
+of_batches P (b ∷ bs) h = (of_each P (λ p. p.tx) b.pacts (all_front P _ _ h), of_batches P bs (all_back P (map (λ p. p.tx) b.pacts) _ h))
 
 found : {X : Type 0} (P : X → Type 0) (p : X → Bool) (xs : List X) (y : X) → find p xs ≡ Some y → AllByRecursion P xs → P y
 found P p [] y e h = absurd (cc e)
@@ -96,12 +89,12 @@ record TxsBelow {C : Type 0} (next : ℕ) (s : Machine C) : Type 0 where
 
 txs_below : {C : Type 0} (w : Fixed C) (s : Machine C) → TransactionsInOnePlace w s → TxsBelow s.ring.next_tx s
 txs_below w s one = record {
-  batches = of_batches (λ n. n < s.ring.next_tx) s.desk.batches (first_all (λ n. n < s.ring.next_tx) _ (map (λ x. x.tx) s.book.acts) placed);
-  acts = of_each (λ n. n < s.ring.next_tx) (λ x. x.tx) s.book.acts (last_all (λ n. n < s.ring.next_tx) (flat (map (λ b. map (λ p. p.tx) b.pacts) s.desk.batches)) _ placed);
+  batches = of_batches (λ n. n < s.ring.next_tx) s.desk.batches (all_front (λ n. n < s.ring.next_tx) _ (map (λ x. x.tx) s.book.acts) placed);
+  acts = of_each (λ n. n < s.ring.next_tx) (λ x. x.tx) s.book.acts (all_back (λ n. n < s.ring.next_tx) (flat (map (λ b. map (λ p. p.tx) b.pacts) s.desk.batches)) _ placed);
 }
   where
     placed : AllByRecursion (λ n. n < s.ring.next_tx) (flat (map (λ b. map (λ p. p.tx) b.pacts) s.desk.batches) ++ map (λ x. x.tx) s.book.acts)
-    placed = last_all (λ n. n < s.ring.next_tx) (flat s.ring.pacts ++ flat s.ring.acts) _ (all_below s.ring.next_tx _ (λ n l. let e = one n in let z = once_from 0 s.ring.next_tx n l in omega (arith, e, z)))
+    placed = all_back (λ n. n < s.ring.next_tx) (flat s.ring.pacts ++ flat s.ring.acts) _ (all_below s.ring.next_tx _ (λ n l. let e = one n in let z = once_from 0 s.ring.next_tx n l in omega (arith, e, z)))
 
 committed_below : {C : Type 0} (next : ℕ) (s : Machine C) (d : Done) → TxsBelow next s → IsCommittedPact s d ⊎ IsCommittedAct s d → d.tx < next
 committed_below next s d h (inl c) = named (λ n. n < next) d.place.order d.tx c.batch.pacts c.names (found (λ b. AllByRecursion (λ (p : Pact). p.tx < next) b.pacts) (λ b. b.bid == d.place.batch.0) s.desk.batches c.batch c.found h.batches)

@@ -7,6 +7,7 @@ use Rattle.snap_base.specs.declared.transactions.Tx.{Tx}
 use Rattle.snap_base.specs.declared.transactions.TxResult.{TxResult}
 use Rattle.snap_base.specs.declared.transactions.TxResult.TheVariants.{Value}
 use Rattle.snap_base.specs.declared.verdicts.Place.{Place}
+use Rattle.snap_base.proofs.Lists.{each_at}
 use Rattle.aml_tree.specs.Tree.{CheckedMethod}
 use Rattle.aml_check.specs.Meaning as meaning
 use Rattle.aml_check.specs.Transactions.{IsTransaction}
@@ -21,13 +22,13 @@ use Rattle.protocol.specs.History.{Done, history}
 use Rattle.protocol.specs.Chains.{by_place, txs_of, IsSerial}
 use Rattle.protocol_laws.specs.Told.{IsAmongDone}
 use Rattle.protocol_laws.proofs.Lemmas.{all_join}
+use Rattle.protocol_theorems.proofs.order.ByPlace.{all_sorted}
 use Rattle.protocol_records.specs.AsTold.{told_committed, ToldStands}
 use Rattle.protocol_verdicts.proofs.evidence.EvidenceSerial.{SplitAt, sorted_at}
 use Rattle.protocol_verdicts.specs.EvidenceSerial.{HasResultThere, FailedAt, counts, counted, VerdictsTell}
 use Rattle.machine_laws.specs.Meant.{IsAsMeant, HasMeantResult, FailedAsMeant, VerdictsAsMeant}
 use Rattle.machine_laws.specs.Programs.{IsTextOf, with_code, finish_of}
-use Rattle.machine_laws.proofs.AsMeant.{AreThere, SerialMeant, asked, all_by_place, all_filter}
-use Rattle.machine_laws.proofs.Instances.{each_at}
+use Rattle.machine_laws.proofs.AsMeant.{AreThere, SerialMeant, asked, all_filter}
 
 -- ---- one of a list that gives its results gives its own, behind those before it
 
@@ -131,7 +132,7 @@ failed_meant p w n k c code es meant is there pacts h =
     let in_batch = subst (AllByRecursion (λ (q : Pact). q.tx < length w.txs)) t.splits (pacts h.front (Abort k ∷ h.later) h.splits k t.batch t.found) in
     let ours = first_with (λ (q : Pact). q.tx < length w.txs) t.front t.pact t.rest in_batch in
     let same = behind_meant p w (txs_of (with_code p w) (counted k c ds)) (map (λ (q : Pact). tx_at w q.tx) ps) meant
-    (asked p w (counted k c ds) is (all_by_place (λ d. d.tx < length w.txs) _ (all_filter (λ d. d.tx < length w.txs) (counts k c) ds there))) (pacts_asked p w ps is ours) in
+    (asked p w (counted k c ds) is (all_sorted (λ d. d.tx < length w.txs) _ (all_filter (λ d. d.tx < length w.txs) (counts k c) ds there))) (pacts_asked p w ps is ours) in
     record {
       front = h.front;
       later = h.later;

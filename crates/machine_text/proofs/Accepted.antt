@@ -1,8 +1,8 @@
 -- A work that keeps the limits is an accepted text of the machine, with each opening with which it may begin.
-use Rattle.std.proofs.Common.{◌≡◌, ℕ, zero, suc, ◌<◌, ◌≤◌, ◌==◌, ◌||◌, Bool, true, false, List, [], ◌∷◌, length, map, refl, sym, ap, subst, arith}
+use Rattle.std.proofs.Common.{◌≡◌, ℕ, zero, suc, ◌<◌, ◌≤◌, ◌==◌, ◌||◌, Bool, true, List, [], ◌∷◌, length, map, sym, ap, subst, arith}
 use Rattle.std.specs.Prelude.{slice_index_or}
 use Rattle.std.specs.List.{AllByRecursion, list_any}
-use Rattle.std.proofs.lemmas.Bool.{eq-eqb}
+use Rattle.std.proofs.lemmas.Bool.{eq-eqb, or_right}
 use Rattle.snap_base.specs.declared.ids.ActorId.{ActorId}
 use Rattle.snap_base.specs.declared.transactions.Kind.{Kind}
 use Rattle.snap_base.specs.declared.transactions.Kind.TheVariants.{Pact, Act}
@@ -28,15 +28,11 @@ uses_called : (actors : ℕ) (us : Uses) → AllByRecursion (asked.IsUse actors)
 uses_called actors [] all = tt
 uses_called actors (u ∷ us) all = (all.0.calls, uses_called actors us all.1)
 
-either_true : (x y : Bool) → y ≡ true → (x || y) ≡ true
-either_true true y e = refl
-either_true false y e = e
-
 -- what a list contains, a test finds there
 found_at : (n : ℕ) (xs : List ℕ) (k : ℕ) → k < length xs → slice_index_or xs k n ≡ n → list_any (λ a. a == n) xs ≡ true
 found_at n [] k below is = absurd (omega (arith, below))
 found_at n (x ∷ xs) zero below is = ap (λ (b : Bool). b || list_any (λ a. a == n) xs) (eq-eqb x n is)
-found_at n (x ∷ xs) (suc k) below is = either_true (x == n) (list_any (λ a. a == n) xs) (found_at n xs k (omega (arith, below)) is)
+found_at n (x ∷ xs) (suc k) below is = or_right (x == n) (list_any (λ a. a == n) xs) (found_at n xs k (omega (arith, below)) is)
 
 below_of : (actors root : ℕ) (k : Kind) (us : Uses) → asked.Declares actors root k us → AllByRecursion (λ a. a < actors) (map (λ (u : ActorId × ℕ). u.0.0) us)
 below_of actors root Pact us d = uses_below actors us d.each

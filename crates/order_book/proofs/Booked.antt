@@ -3,6 +3,7 @@ use Rattle.std.proofs.Common.{◌≡◌, ℕ, refl, ap, sym, ◌∙◌, subst, m
 use Rattle.std.specs.Prelude.{◌==◌, nat_le, not, ◌&&◌, ◌||◌, Bool, true, false, Option, Some, unwrap_or, filter}
 use Rattle.std.specs.List.{AllByRecursion}
 use Rattle.std.proofs.lemmas.Bool.{false≢true}
+use Rattle.snap_base.proofs.Booleans.{or_assoc, or_false}
 use Rattle.protocol.specs.Rivals.{Lock}
 use Rattle.protocol.specs.Parts.{Act, Pair, Status, Live, Doomed, Decided, Sealed}
 use Rattle.protocol.specs.Words.{is_doomed, is_live_status, holds, act_of}
@@ -52,14 +53,6 @@ cascaded_left pairs k by acts mid new walked left was e f told =
 
 -- ---- one joins an actor
 
-or_assoc : (a b c : Bool) → (a || (b || c)) ≡ ((a || b) || c)
-or_assoc true b c = refl
-or_assoc false b c = refl
-
-or_none : (a : Bool) → (a || false) ≡ a
-or_none true = refl
-or_none false = refl
-
 behind_append : (ps qs : List Pair) (t : ℕ) → is_behind (ps ++ qs) t ≡ (is_behind ps t || is_behind qs t)
 behind_append [] qs t = refl
 behind_append (p ∷ ps) qs t = ap (λ (b : Bool). (p.behind == t) || b) (behind_append ps qs t) ∙ or_assoc (p.behind == t) (is_behind ps t) (is_behind qs t)
@@ -76,7 +69,7 @@ behind_same : (pairs : List Pair) (t a u : ℕ) (group : List Lock) (all : List 
 behind_same pairs t a u group all e =
     behind_append pairs (new_pairs t a group all) u
     ∙ (ap (λ (b : Bool). is_behind pairs u || b) (others_behind t a u (filter (λ (x : Lock). not (is_doomed_act all x)) group) (eqb_turned u t false e))
-    ∙ or_none (is_behind pairs u))
+    ∙ or_false (is_behind pairs u))
 
 undoomed_same : (ps qs : List Pair) (t : ℕ) (st : Status) → not (is_doomed st) ≡ true → walked_as ps t st ≡ walked_as qs t st
 undoomed_same ps qs t Live e = refl

@@ -2,11 +2,12 @@
 use Rattle.std.proofs.Common.{◌≡◌, ℕ, zero, suc, ◌+◌, ◌<◌, ◌≤◌, refl, ap, sym, ◌∙◌, arith, length, get_or, drop, map, List, [], ◌∷◌, ◌++◌}
 use Rattle.std.specs.Prelude.{◌==◌, nat_lt, not, Bool, true, false, if◌then◌else◌, Option, Some, None, IfSome, slice_get, find}
 use Rattle.std.specs.List.{AllByRecursion, position_or_len}
-use Rattle.std.proofs.lemmas.Bool.{cond-true, cond-false, ne_eqb, eq-eqb, eqb-true, eqb-false, ltb-true, ltb-false, not_from_true, not_from_false}
+use Rattle.std.proofs.lemmas.Bool.{cond-true, cond-false, ne_eqb, eq-eqb, eqb-true, ltb-true, ltb-false, not_from_true, not_from_false}
 use Rattle.std.specs.Option.{option_map}
 use Rattle.std.proofs.lemmas.List.Folds.{find_at}
 use Rattle.std.proofs.lemmas.Option.{same_Some, none-some}
 use Rattle.snap_base.specs.declared.ids.Tid.{Tid}
+pub use Rattle.snap_base.proofs.Booleans.{eqb_turned}
 use Rattle.protocol.specs.Meant.{tid_number}
 use Rattle.protocol.specs.Parts.{Act}
 use Rattle.protocol.specs.Words.{act_of}
@@ -42,10 +43,6 @@ pub rising_drop : (n : ℕ) (xs : List ℕ) → IsRising xs → IsRising (drop n
 rising_drop zero xs up = up
 rising_drop (suc n) [] up = up
 rising_drop (suc n) (x ∷ xs) up = rising_drop n xs up.1
-
-pub eqb_turned : (a b : ℕ) (c : Bool) → (a == b) ≡ c → (b == a) ≡ c
-eqb_turned a b true e = eq-eqb b a (sym (eqb-true a b e))
-eqb_turned a b false e = ne_eqb b a (λ (same : b ≡ a). eqb-false a b e (sym same))
 
 -- ---- the place of a number
 

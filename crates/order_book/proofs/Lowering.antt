@@ -1,6 +1,7 @@
 -- A batch behind some ACTs, met one after the other.
 use Rattle.std.proofs.Common.{◌≡◌, ℕ, refl, ap, sym, ◌∙◌, arith, map, List, [], ◌∷◌, ◌++◌}
 use Rattle.std.specs.Prelude.{◌==◌, ◌||◌, Bool, true, false, if◌then◌else◌, Option, Some, None}
+use Rattle.snap_base.proofs.Booleans.{or_assoc, or_false}
 use Rattle.protocol.specs.Parts.{Act}
 use Rattle.protocol.specs.Words.{is_among, least_of}
 use Rattle.protocol.specs.OnBook.{change_if, changed_act, lowered}
@@ -26,16 +27,8 @@ number_changed : (k : ℕ) (b : Bool) (x : Act) → change_if b (lowered_to k) x
 number_changed k true x = refl
 number_changed k false x = refl
 
-or_assoc : (a b c : Bool) → (a || (b || c)) ≡ ((a || b) || c)
-or_assoc true b c = refl
-or_assoc false b c = refl
-
-or_none : (a : Bool) → (a || false) ≡ a
-or_none true = refl
-or_none false = refl
-
 among_push : (n : ℕ) (ts : List ℕ) (t : ℕ) → is_among n (ts ++ t ∷ []) ≡ (is_among n ts || (t == n))
-among_push n [] t = or_none (t == n)
+among_push n [] t = or_false (t == n)
 among_push n (s ∷ ts) t = ap (λ (b : Bool). (s == n) || b) (among_push n ts t) ∙ or_assoc (s == n) (is_among n ts) (t == n)
 
 lowered_one : (k t : ℕ) (ts : List ℕ) (x : Act) → change_if (x.tid == t) (lowered_to k) (lowered k ts x) ≡ lowered k (ts ++ t ∷ []) x

@@ -6,6 +6,7 @@ use Rattle.std.specs.Cmp.{IsEquivalence}
 use Rattle.std.specs.List.{AllByRecursion, IsDistinct}
 use Rattle.std.specs.Map.{keys_of, lookup}
 use Rattle.std.specs.Option.{option_map}
+use Rattle.snap_base.proofs.Options.{none_mapped}
 use Rattle.indexmap.specs.IndexMap.{insert_entry, swap_remove_entry}
 use Rattle.post_box.specs.declared.numbered.Numbered.{Numbered}
 use Rattle.post_box.specs.Order.{in_order, IsNumbered}
@@ -96,16 +97,6 @@ module _ {K M : Type 0} where
   pub length-posting_order : (n : ℕ) (es : List (K × Numbered M)) → IsNumbered entry_number n es → length (in_posting_order n es) ≡ length es
   length-posting_order n es h = length-map_same entry_message (in_order entry_number n es) ∙ length-in_order entry_number n es h
 
--- ---- options
-
-pub is_some-option_map : {X Y : Type 0} (f : X → Y) (o : Option X) → is_some (option_map f o) ≡ is_some o
-is_some-option_map f None = refl
-is_some-option_map f (Some x) = refl
-
-pub none_from_option_map : {X Y : Type 0} (f : X → Y) (o : Option X) → option_map f o ≡ None → o ≡ None
-none_from_option_map f None e = refl
-none_from_option_map f (Some x) e = absurd (true≢false (ap is_some e))
-
 -- ---- the calls
 
 insert_entry-absent : {K V : Type 0} (eq : K → K → Bool) (es : List (K × V)) (k : K) (v : V) → lookup (eq k) es ≡ None → insert_entry eq es k v ≡ es ++ (k, v) ∷ []
@@ -130,7 +121,7 @@ module _ {K M : Type 0} {eq : K → K → Bool} (laws : IsEquivalence eq) (k : K
 
   module _ (m : M) (none : lookup (eq k) (in_posting_order n es) ≡ None) where
     last : insert_entry eq es k (record { number = n; message = m }) ≡ es ++ (k, record { number = n; message = m }) ∷ []
-    last = insert_entry-absent eq es k (record { number = n; message = m }) (none_from_option_map (λ (v : Numbered M). v.message) (lookup (eq k) es) (sym found ∙ none))
+    last = insert_entry-absent eq es k (record { number = n; message = m }) (none_mapped (λ (v : Numbered M). v.message) (lookup (eq k) es) (sym found ∙ none))
 
     pub put : in_posting_order (n + 1) (insert_entry eq es k (record { number = n; message = m })) ≡ in_posting_order n es ++ (k, m) ∷ []
     put = ap (in_posting_order (n + 1)) last ∙ posting_order-put n es k m h

@@ -2,7 +2,8 @@
 -- it was.
 use Rattle.std.specs.Prelude.{◌≡◌, refl, ℕ, ◌%◌, ◌==◌, ◌<◌, nat_lt, is_some, Bool, true, false, not, ◌&&◌, ◌||◌, Option, Some, None, List, [], ◌∷◌, ◌++◌, length, filter, slice_get, ◌↔◌}
 use Rattle.std.proofs.Common.{sym, ap, subst, inl, inr, ◌∙◌}
-use Rattle.std.proofs.lemmas.Bool.{eqb-true, eq-eqb, and_parts, or_cases}
+use Rattle.std.proofs.lemmas.Bool.{eqb-true, eq-eqb, and_parts}
+use Rattle.snap_base.proofs.Booleans.{either_way}
 use Rattle.protocol.specs.Fixed.{Fixed}
 use Rattle.protocol.specs.Records.{is_info, is_complete, is_commit, is_prepare, is_act_commit}
 use Rattle.protocol.specs.Parts.{Who, OfBatch, OfAct, Act, Batch, ControlMessage, Machine}
@@ -27,9 +28,6 @@ at : {C : Type 0} (w : Fixed C) (e : Event) (s t : Machine C) (n : ℕ) (xs : Li
 at w e s t n xs f h g = has_at (groups w e s t) n xs f h g
 
 -- ---- each kind
-
-either : {X : Type 0} (a b : Bool) → (a || b) ≡ true → (a ≡ true → X) → (b ≡ true → X) → X
-either a b h f g = elim (or_cases a b h) [ inl x ↦ f x | inr y ↦ g y ]
 
 -- the control of an ACT that is given up
 drop_of : {C : Type 0} (w : Fixed C) (e : Event) (s t : Machine C) (u : ℕ) (m : ControlMessage C) → control_of u t.post.controls ≡ Some m → changes_who e s m.who ≡ true → Has (Ready.by_doom e s t) (DropControl u)
@@ -99,99 +97,99 @@ listed_all w e s t same (Pass c) ok h = at w e s t 0 (next_of_ring w t) _ refl (
 listed_all w e s t same (Form k) ok h = at w e s t 0 (next_of_ring w t) _ refl (inr (inr (inl (ap Form (sym (eqb-true k _ ok.0))))))
 listed_all w e s t same (Admit u) ok h = at w e s t 0 (next_of_ring w t) _ refl (inr (inr (inr (inl (ap Admit (sym (eqb-true u _ ok.0)))))))
 listed_all w e s t same (Arrive k a) ok h =
-    either _ _ h
-    (λ x. either (Touched.changes_subs e k) (Touched.changes_sub e k a) x
+    either_way _ _ h
+    (λ x. either_way (Touched.changes_subs e k) (Touched.changes_sub e k a) x
     (λ y. at w e s t 8 (Ready.by_subs e t) _ refl (listed.all_subs e t k _ y (offered.in_subs k a t _ ok.0 (inl refl))))
     (λ y. at w e s t 8 (Ready.by_subs e t) _ refl (listed.one_sub e t k a y).0))
-    (λ x. either (Touched.changes_epoch e a) (Touched.changes_tail e a) x
+    (λ x. either_way (Touched.changes_epoch e a) (Touched.changes_tail e a) x
     (λ y. at w e s t 5 (Ready.by_epoch e t) _ refl (listed.epochs e t a _ y (inr (has_left (arrivals a t) _ _ (offered.in_arrivals k a t ok.0)))))
     (λ y. at w e s t 6 (Ready.by_tail e t) _ refl (listed.tails e t a _ y (offered.in_arrivals k a t ok.0))))
 listed_all w e s t same (Ask u a) ok h =
     let on = offered.in_comings u a t (Ask u a) ok.0 (inl refl) in
     let control = offered.in_control u a t (Ask u a) ok.0 (inl refl) in
-    either (Touched.changes_control w e s u) _ h
+    either_way (Touched.changes_control w e s u) _ h
     (λ x. by_control w e s t u _ x control)
-    (λ x. either (Touched.changes_doom e s u) _ x
+    (λ x. either_way (Touched.changes_doom e s u) _ x
     (λ y. at w e s t 22 (Ready.by_doom e s t) _ refl (listed.dooms e s t u _ y (has_left (on_control u t) _ _ control)))
-    (λ y. either (Touched.changes_entries e a) (Touched.changes_epoch e a) y
+    (λ y. either_way (Touched.changes_entries e a) (Touched.changes_epoch e a) y
     (λ z. by_entries w e s t a _ z (has_left (comings a t) _ _ on))
     (λ z. at w e s t 5 (Ready.by_epoch e t) _ refl (listed.epochs e t a _ z (inr (has_right (arrivals a t) _ _ on))))))
 listed_all w e s t same (Take u a) ok h =
-    either (Touched.changes_control w e s u) (Touched.changes_entries e a) h
+    either_way (Touched.changes_control w e s u) (Touched.changes_entries e a) h
     (λ x. by_control w e s t u _ x (offered.in_control u a t (Take u a) ok.0 (inr (inl refl))))
     (λ x. by_entries w e s t a _ x (has_left (comings a t) _ _ (offered.in_comings u a t (Take u a) ok.0 (inr (inl refl)))))
 listed_all w e s t same (Run u a) ok h =
     let on = offered.in_runs u a t ok.0 in
-    either _ (Touched.changes_entries e a || Touched.changes_marks w e s a) h
-    (λ x. either (Touched.changes_boxes e a) (Touched.changes_inbox e u a) x
+    either_way _ (Touched.changes_entries e a || Touched.changes_marks w e s a) h
+    (λ x. either_way (Touched.changes_boxes e a) (Touched.changes_inbox e u a) x
     (λ y. at w e s t 1 (Ready.by_boxes e t) _ refl (listed.boxes e t a _ y (has_left (runs_on a t) _ _ on)))
     (λ y. at w e s t 2 (Ready.by_inbox e) _ refl (listed.inbox e u a y)))
-    (λ x. either (Touched.changes_entries e a) (Touched.changes_marks w e s a) x
+    (λ x. either_way (Touched.changes_entries e a) (Touched.changes_marks w e s a) x
     (λ y. by_entries w e s t a _ y (has_right (comings a t) _ _ (has_left (runs_on a t) _ _ on)))
     (λ y. by_marks w e s t a _ y (has_left (runs_on a t) _ _ on)))
 listed_all w e s t same (Send u a) ok h =
-    either (Touched.changes_boxes e a) (Touched.changes_outbox e u a) h
+    either_way (Touched.changes_boxes e a) (Touched.changes_outbox e u a) h
     (λ y. at w e s t 1 (Ready.by_boxes e t) _ refl (listed.boxes e t a _ y (has_right (runs_on a t) _ _ (offered.in_sends u a t (λ x. is_going x.next) _ ok.0 (inl refl)))))
     (λ y. at w e s t 3 (Ready.by_outbox e) _ refl (listed.outbox e u a y).0)
 listed_all w e s t same (End u a) ok h =
-    either (Touched.changes_boxes e a) (Touched.changes_outbox e u a) h
+    either_way (Touched.changes_boxes e a) (Touched.changes_outbox e u a) h
     (λ y. at w e s t 1 (Ready.by_boxes e t) _ refl (listed.boxes e t a _ y (has_right (runs_on a t) _ _ (offered.in_sends u a t (λ x. is_ended x.next) _ ok.0 (inr (inl refl))))))
     (λ y. at w e s t 3 (Ready.by_outbox e) _ refl (listed.outbox e u a y).1)
 listed_all w e s t same (Close u a) ok h =
-    either (Touched.changes_result w e s u) (Touched.changes_entries e a || Touched.changes_done w e s u a) h
+    either_way (Touched.changes_result w e s u) (Touched.changes_entries e a || Touched.changes_done w e s u a) h
     (λ x. at w e s t 15 (Ready.by_result w e s t) _ refl (listed.result w e s t u _ x (offered.close_in_result u a t ok.1.0)))
-    (λ x. either (Touched.changes_entries e a) (Touched.changes_done w e s u a) x
+    (λ x. either_way (Touched.changes_entries e a) (Touched.changes_done w e s u a) x
     (λ y. by_entries w e s t a _ y (offered.in_entries a t _ (offered.close_in u a t ok.1.0)))
     (λ y. at w e s t 20 (Ready.by_mark w e s t) _ refl (listed.dones w e s t u a y)))
 listed_all w e s t same (Complete k a) ok h =
-    either (Touched.changes_entries e a) (Touched.changes_marks w e s a) h
+    either_way (Touched.changes_entries e a) (Touched.changes_marks w e s a) h
     (λ x. by_entries w e s t a _ x (offered.in_entries a t _ (offered.complete_in k a t (λ e. not (is_complete_batch e)) ok.0)))
     (λ x. by_marks w e s t a _ x (offered.complete_in_marks k a t (λ e. not (is_complete_batch e)) ok.0))
 listed_all w e s t same (Sync l) ok h = at w e s t 9 (Ready.by_log w e) _ refl (listed.logs w e l h)
 listed_all w e s t same (Note k a) ok h =
-    either (Touched.changes_stage e k) _ h
+    either_way (Touched.changes_stage e k) _ h
     (λ x. by_stage w e s t k _ x (offered.in_declared k a (batch_of k t.desk.batches) is_open (λ p. not p.noted) _ ok.0 (inl refl)))
-    (λ x. either (Touched.changes_note e k a) _ x
+    (λ x. either_way (Touched.changes_note e k a) _ x
     (λ y. at w e s t 13 (Ready.by_marks e) _ refl (listed.notes e k a y))
     (λ y. by_fresh w e s t _ (listed.records e s (is_complete k a) (a % w.text.logs) _ (listed.of_complete k a) y)))
 listed_all w e s t same (Commit k) ok h =
-    either (Touched.changes_stage e k) _ h
+    either_way (Touched.changes_stage e k) _ h
     (λ x. by_stage w e s t k _ x (offered.in_batch k (batch_of k t.desk.batches) _ _ ok.0 (inl refl)))
-    (λ x. either (Touched.changes_noted e k) _ x
+    (λ x. either_way (Touched.changes_noted e k) _ x
     (λ y. at w e s t 13 (Ready.by_marks e) _ refl (listed.noted e k y))
-    (λ y. either (Touched.changes_results e s k) _ y
+    (λ y. either_way (Touched.changes_results e s k) _ y
     (λ z. at w e s t 14 (Ready.by_results e s) _ refl (listed.results e s k _ z (inl refl)))
-    (λ z. either (Touched.changes_next e k) _ z
+    (λ z. either_way (Touched.changes_next e k) _ z
     (λ v. at w e s t 16 (Ready.by_next e t) _ refl (by_next w e s t k (is_next_to_commit k t.desk.batches) _ v ok.0 (inl refl)))
     (λ v. by_fresh w e s t _ (listed.records e s (is_info k) (k % w.text.logs) _ (listed.of_info k) v)))))
 listed_all w e s t same (Settle k) ok h =
-    either (Touched.changes_stage e k) _ h
+    either_way (Touched.changes_stage e k) _ h
     (λ x. by_stage w e s t k _ x (offered.in_batch k (batch_of k t.desk.batches) _ _ ok.0 (inr (inl refl))))
     (λ x. by_fresh w e s t _ (listed.records e s (is_commit k) (k % w.text.logs) _ (listed.of_commit k) x))
 listed_all w e s t same (Abort k) ok h =
-    either (Touched.changes_stage e k) _ h
+    either_way (Touched.changes_stage e k) _ h
     (λ x. by_stage w e s t k _ x (offered.in_batch k (batch_of k t.desk.batches) _ _ ok.0 (inr (inr (inl refl)))))
-    (λ x. either (Touched.changes_results e s k) _ x
+    (λ x. either_way (Touched.changes_results e s k) _ x
     (λ y. at w e s t 14 (Ready.by_results e s) _ refl (listed.results e s k _ y (inr (inl refl))))
     (λ y. at w e s t 16 (Ready.by_next e t) _ refl (by_next w e s t k (is_next_to_commit k t.desk.batches) _ y ok.0 (inr (inl refl)))))
 listed_all w e s t same (Rollback a) ok h = at w e s t 5 (Ready.by_epoch e t) _ refl (listed.epochs e t a _ h (inl refl))
 listed_all w e s t same (DropSub k a) ok h =
-    either (Touched.changes_subs e k) (Touched.changes_sub e k a) h
+    either_way (Touched.changes_subs e k) (Touched.changes_sub e k a) h
     (λ y. at w e s t 8 (Ready.by_subs e t) _ refl (listed.all_subs e t k _ y (offered.in_subs k a t _ ok.0 (inr (inl refl)))))
     (λ y. at w e s t 8 (Ready.by_subs e t) _ refl (listed.one_sub e t k a y).1)
 listed_all w e s t same (DropControl u) ok h = drop_control w e s t u same ok.0 h
 listed_all w e s t same (Prepare u a) ok h =
-    either (changes_act e s u) (Touched.changes_prepared e u a) h
+    either_way (changes_act e s u) (Touched.changes_prepared e u a) h
     (λ x. by_act w e s t u _ x (offered.in_place u a _ (λ p. not p.prepared) _ ok.1.0 (inl refl)))
     (λ x. by_votes w e s t _ (listed.prepared e t u a x).0)
 listed_all w e s t same (Vouch u a) ok h =
-    either (changes_act e s u) _ h
+    either_way (changes_act e s u) _ h
     (λ x. by_act w e s t u _ x (offered.in_place u a _ (λ p. p.prepared && not p.vouched) _ (vouched u a (act_of u t.book.acts) ok.0) (inr (inl refl))))
-    (λ x. either (Touched.changes_prepared e u a || Touched.changes_vouched e u a) _ x
-    (λ y. either (Touched.changes_prepared e u a) (Touched.changes_vouched e u a) y
+    (λ x. either_way (Touched.changes_prepared e u a || Touched.changes_vouched e u a) _ x
+    (λ y. either_way (Touched.changes_prepared e u a) (Touched.changes_vouched e u a) y
     (λ z. by_votes w e s t _ (listed.prepared e t u a z).1)
     (λ z. by_votes w e s t _ (listed.vouched e t u a z)))
-    (λ y. either (Touched.changes_left e u) _ y
+    (λ y. either_way (Touched.changes_left e u) _ y
     (λ z. by_votes w e s t _ (listed.left e t u _ z (offered.in_vouches u a _ (λ p. p.prepared && not p.vouched) (vouched u a (act_of u t.book.acts) ok.0))))
     (λ z. by_fresh w e s t _ (listed.records e s (is_prepare u a) (a % w.text.logs) _ (listed.of_prepare u a) z))))
   where
@@ -199,25 +197,25 @@ listed_all w e s t same (Vouch u a) ok h =
     vouched u a None h = h
     vouched u a (Some x) h = (and_parts (not (is_doomed x.status)) _ (and_parts (is_live_act x) _ h).1).1
 listed_all w e s t same (Decide u) ok h =
-    either (changes_act e s u) _ h
+    either_way (changes_act e s u) _ h
     (λ x. by_act w e s t u _ x (offered.in_act u _ _ _ ok.0 (inl refl)))
-    (λ x. either (Touched.changes_votes e u) _ x
+    (λ x. either_way (Touched.changes_votes e u) _ x
     (λ y. by_votes w e s t _ (listed.votes e t u y))
     (λ y. at w e s t 17 (Ready.by_settled e t) _ refl (by_settled e t u y ok.0)))
 listed_all w e s t same (Seal u) ok h =
-    either (changes_act e s u) _ h
+    either_way (changes_act e s u) _ h
     (λ x. by_act w e s t u _ x (offered.in_act u _ _ _ ok.0 (inr (inl refl))))
     (λ x. by_fresh w e s t _ (listed.records e s (is_act_commit u) (u % w.text.logs) _ (listed.of_act_commit u) x))
 listed_all w e s t same (Finish u a) ok h =
-    either (changes_act e s u) (Touched.changes_finished e u a) h
+    either_way (changes_act e s u) (Touched.changes_finished e u a) h
     (λ x. by_act w e s t u _ x (offered.in_place u a _ (λ p. not p.finished) _ ok.1.0 (inr (inr (inl refl)))))
     (λ x. by_votes w e s t _ (listed.finished e t u a x))
 listed_all w e s t same (Reply n) ok h =
-    either (Touched.changes_replied e n) _ h
+    either_way (Touched.changes_replied e n) _ h
     (λ x. at w e s t 18 (Ready.by_replied e) _ refl (listed.replied e n x))
     (λ x. at w e s t 19 (Ready.by_verdict w e s) _ refl (listed.verdicts w e s n x))
 listed_all w e s t same (Trim k a) ok h =
-    either (Touched.changes_stage e k) (Touched.changes_trim e k a) h
+    either_way (Touched.changes_stage e k) (Touched.changes_trim e k a) h
     (λ x. by_stage w e s t k _ x (offered.in_declared_settled k a (batch_of k t.desk.batches) _ ok.0 (inr (inl refl))))
     (λ x. at w e s t 13 (Ready.by_marks e) _ refl (listed.trims e k a x))
 

@@ -1,8 +1,9 @@
 -- What lists have.
-use Rattle.std.specs.Prelude.{◌≡◌, refl, ℕ, zero, suc, ◌<◌, is_some, Bool, true, false, ◌||◌, if◌then◌else◌, Option, Some, None, List, [], ◌∷◌, ◌++◌, ◌⊎◌, length, map, filter, find, slice_get, slice_set, slice_index_or, ◌≢◌, Contains}
+use Rattle.std.specs.Prelude.{◌≡◌, refl, ℕ, zero, suc, ◌<◌, is_some, Bool, true, false, ◌||◌, if◌then◌else◌, Option, Some, None, List, [], ◌∷◌, ◌++◌, ◌⊎◌, length, map, filter, find, slice_get, slice_index_or, Contains}
 use Rattle.std.specs.List.{list_any, flat_map}
 use Rattle.std.proofs.Common.{arith, sym, ap, subst, inl, inr, ◌∙◌}
 use Rattle.std.proofs.lemmas.Bool.{true≢false, cases_lt}
+use Rattle.snap_base.proofs.Options.{same_some}
 use Rattle.protocol.specs.Words.{holds, below}
 use Rattle.protocol.specs.Numbers.{flat}
 
@@ -66,13 +67,10 @@ has_flat_map f [] x y h g = absurd h
 has_flat_map f (z ∷ xs) x y (inl e) g = has_left (f z) (flat_map f xs) y (subst (λ v. Has (f v) y) (sym e) g)
 has_flat_map f (z ∷ xs) x y (inr h) g = has_right (f z) (flat_map f xs) y (has_flat_map f xs x y h g)
 
-pub some_is : {X : Type 0} (x y : X) → Some x ≡ Some y → x ≡ y
-some_is x y e = cc e
-
 -- the list at this place has it
 pub has_at : {X : Type 0} (xss : List (List X)) (n : ℕ) (xs : List X) (x : X) → slice_get xss n ≡ Some xs → Has xs x → Has (flat xss) x
 has_at [] n xs x e h = absurd (cc e)
-has_at (ys ∷ xss) zero xs x e h = has_left ys (flat xss) x (subst (λ v. Has v x) (sym (some_is ys xs e)) h)
+has_at (ys ∷ xss) zero xs x e h = has_left ys (flat xss) x (subst (λ v. Has v x) (sym (same_some ys xs e)) h)
 has_at (ys ∷ xss) (suc n) xs x e h = has_right ys (flat xss) x (has_at xss n xs x e h)
 
 -- ---- what is found
@@ -95,7 +93,7 @@ found_in p [] x e = absurd (cc e)
 found_in p (y ∷ xs) x e = by (p y) refl e (found_in p xs x)
   where
     by : (b : Bool) → p y ≡ b → (if b then Some y else find p xs) ≡ Some x → (find p xs ≡ Some x → Has xs x × (p x ≡ true)) → Has (y ∷ xs) x × (p x ≡ true)
-    by true f g i = let q = some_is y x g in (inl q, ap p (sym q) ∙ f)
+    by true f g i = let q = same_some y x g in (inl q, ap p (sym q) ∙ f)
     by false f g i = let r = i g in (inr r.0, r.1)
 
 pub record IsAmong {X : Type 0} (p : X → Bool) (xs : List X) : Type 0 where
@@ -113,7 +111,7 @@ any_of p (x ∷ xs) h = by (p x) refl h (any_of p xs)
 
 pub at_found : {X : Type 0} (xs : List X) (i : ℕ) (d x : X) → slice_get xs i ≡ Some x → slice_index_or xs i d ≡ x
 at_found [] i d x e = absurd (cc e)
-at_found (y ∷ xs) zero d x e = some_is y x e
+at_found (y ∷ xs) zero d x e = same_some y x e
 at_found (y ∷ xs) (suc i) d x e = at_found xs i d x e
 
 pub is_within : {X : Type 0} (xs : List X) (i : ℕ) (x : X) → slice_get xs i ≡ Some x → i < length xs
@@ -124,10 +122,3 @@ is_within (y ∷ xs) (suc i) x e = omega (arith, is_within xs i x e)
 pub has_below : (i n : ℕ) → i < n → Has (below n) i
 has_below i zero h = absurd (omega (arith, h))
 has_below i (suc n) h = elim (cases_lt i n) [ inl a ↦ has_left (below n) (n ∷ []) i (has_below i n a) | inr b ↦ has_right (below n) (n ∷ []) i (inl (omega (arith, h, b))) ]
-
-pub get_other : {X : Type 0} (xs : List X) (i j : ℕ) (x : X) → j ≢ i → slice_get (slice_set xs j x) i ≡ slice_get xs i
-get_other [] i j x h = refl
-get_other (y ∷ ys) zero zero x h = absurd (h refl)
-get_other (y ∷ ys) zero (suc j) x h = refl
-get_other (y ∷ ys) (suc i) zero x h = refl
-get_other (y ∷ ys) (suc i) (suc j) x h = get_other ys i j x (λ e. h (ap suc e))

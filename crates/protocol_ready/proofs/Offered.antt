@@ -7,6 +7,7 @@ use Rattle.protocol.specs.Parts.{SubBatch, ControlMessage, Act, Joined, Batch, D
 use Rattle.protocol.specs.Events.{Event, Arrive, Ask, Take, Run, Send, End, Close, Complete, Commit, Settle, Abort, DropControl, Vouch, Decide, Seal}
 use Rattle.protocol.specs.Words.{holds, sub_of, control_of, has_control_to, waiting_of, outcome_of, act_of, joined_of, batch_of, declared_of, is_undone, has_undone, is_batch_entry, is_settled}
 use Rattle.protocol.specs.Effects.{cell_at, no_cell}
+use Rattle.protocol_laws.proofs.first.Lists.{some_held}
 use Rattle.protocol_ready.specs.Lying.{runs_on, sends_on, comings, arrivals, of_entry, on_entries, completes_of, on_marks, of_control, on_control, on_sub, on_subs, on_place, of_act, vouches_of, on_declared, of_batch, on_result, ends_of}
 use Rattle.protocol_ready.proofs.Listing.{Has, has_right, has_map, has_filter, has_flat_map, held, some, found_in, any_of, at_found, is_within, has_below}
 
@@ -57,21 +58,17 @@ control_found t controls h =
     let r = found_in (λ m. m.tid == t) controls m.it m.is in
     record { it = m.it; is = m.is; has = r.0; tid = eqb-true m.it.tid t r.1 }
 
-holds_some : {X : Type 0} (p : X → Bool) (o : Option X) → holds p o ≡ true → is_some o ≡ true
-holds_some p None h = absurd (true≢false (sym h))
-holds_some p (Some x) h = refl
-
 to_is : {C : Type 0} (t a : ℕ) (controls : List (ControlMessage C)) (m : ControlMessage C) → control_of t controls ≡ Some m → has_control_to t a controls ≡ true → m.to ≡ a
 to_is t a controls m e h = eqb-true m.to a (subst (λ o. holds (λ m. m.to == a) o ≡ true) e h)
 
 pub in_comings : {C : Type 0} (t a : ℕ) (s : Machine C) (f : Event) → has_control_to t a s.post.controls ≡ true → Has (Ask t a ∷ Take t a ∷ []) f → Has (comings a s) f
 in_comings t a s f h g =
-    let m = control_found t s.post.controls (holds_some _ _ h) in
+    let m = control_found t s.post.controls (some_held _ _ h) in
     has_flat_map (λ m. Ask m.tid a ∷ Take m.tid a ∷ []) (filter (λ m. m.to == a) s.post.controls) m.it f (has_filter (λ m. m.to == a) s.post.controls m.it m.has (eq-is m.it.to a (to_is t a s.post.controls m.it m.is h))) (subst (λ n. Has (Ask n a ∷ Take n a ∷ []) f) (sym m.tid) g)
 
 pub in_control : {C : Type 0} (t a : ℕ) (s : Machine C) (f : Event) → has_control_to t a s.post.controls ≡ true → Has (Ask t a ∷ Take t a ∷ DropControl t ∷ []) f → Has (on_control t s) f
 in_control t a s f h g =
-    let m = control_found t s.post.controls (holds_some _ _ h) in
+    let m = control_found t s.post.controls (some_held _ _ h) in
     subst (λ o. Has (of_control t o) f) (sym m.is) (subst (λ n. Has (Ask t n ∷ Take t n ∷ DropControl t ∷ []) f) (sym (to_is t a s.post.controls m.it m.is h)) g)
 
 pub drop_in_control : {C : Type 0} (t : ℕ) (s : Machine C) → is_some (control_of t s.post.controls) ≡ true → Has (on_control t s) (DropControl t)

@@ -134,14 +134,6 @@ below_filter r p (x ∷ xs) h = by (p x) (below_filter r p xs h.1)
     by true g = (h.0, g)
     by false g = g
 
-pub ascends_filter : (p : Event → Bool) (xs : List Event) → Ascends xs → Ascends (filter p xs)
-ascends_filter p [] h = tt
-ascends_filter p (x ∷ xs) h = by (p x) (ascends_filter p xs h.1)
-  where
-    by : (b : Bool) → Ascends (filter p xs) → Ascends (if b then x ∷ filter p xs else filter p xs)
-    by true g = (below_filter (rank x) p xs h.0, g)
-    by false g = g
-
 below_more : (q r : Rank) (xs : List Event) → is_rank_below q r ≡ true → IsBelowEach r xs → IsBelowEach q xs
 below_more q r [] h g = tt
 below_more q r (x ∷ xs) h g = (is_less q (rank x) (through q r (rank x) (less q r h) (less r (rank x) g.0)), below_more q r xs h g.1)

@@ -1,6 +1,6 @@
 -- What is out of an event's reach is not changed by it.
-use Rattle.std.specs.Prelude.{◌≡◌, refl, ℕ, ◌==◌, Bool, true, false, ◌&&◌, ◌||◌}
-use Rattle.std.proofs.lemmas.Bool.{true≢false}
+use Rattle.std.specs.Prelude.{◌≡◌, refl, ℕ, ◌==◌, false}
+use Rattle.std.proofs.lemmas.Bool.{true≢false, and_right, or_from}
 use Rattle.protocol.specs.Fixed.{Fixed}
 use Rattle.protocol.specs.Parts.{Machine}
 use Rattle.protocol.specs.Events.{Event, Submit, Pass, Form, Admit, Arrive, Ask, Take, Run, Send, End, Close, Complete, Sync, Note, Commit, Settle, Abort, Rollback, DropSub, DropControl, Prepare, Vouch, Decide, Seal, Finish, Trim}
@@ -8,14 +8,6 @@ use Rattle.protocol.specs.Effects.{after}
 use Rattle.protocol_ready.specs.Touched
 use Rattle.protocol_ready.specs.Touched.{is_abort}
 use Rattle.protocol_ready.specs.Refusing.{actor_of, tid_of, bid_of, is_at, is_on_ring, is_form, spreads, is_on_log, is_on_batches, is_settle}
-
-and_not : (x y : Bool) → y ≡ false → (x && y) ≡ false
-and_not true y h = h
-and_not false y h = refl
-
-pub not_or : (x y : Bool) → x ≡ false → y ≡ false → (x || y) ≡ false
-not_or true y h g = absurd (true≢false h)
-not_or false y h g = g
 
 -- ---- by the actor
 
@@ -65,8 +57,8 @@ tails (Rollback b) a h = h
 tails _ a h = refl
 
 pub sub : (e : Event) (k a : ℕ) → is_at a (actor_of e) ≡ false → Touched.changes_sub e k a ≡ false
-sub (Arrive j b) k a h = and_not (j == k) (b == a) h
-sub (DropSub j b) k a h = and_not (j == k) (b == a) h
+sub (Arrive j b) k a h = and_right (j == k) (b == a) h
+sub (DropSub j b) k a h = and_right (j == k) (b == a) h
 sub _ k a h = refl
 
 -- ---- by the batch
@@ -126,30 +118,30 @@ result w (End u a) s t h g = g
 result w _ s t h g = refl
 
 pub dooms : {C : Type 0} (e : Event) (s : Machine C) (t : ℕ) → spreads e ≡ false → is_at t (tid_of e) ≡ false → Touched.changes_doom e s t ≡ false
-dooms (Admit u) s t h g = not_or (u == t) false g refl
+dooms (Admit u) s t h g = or_from (u == t) false g refl
 dooms (Arrive k a) s t h g = absurd (true≢false h)
 dooms (Ask u a) s t h g = absurd (true≢false h)
 dooms _ s t h g = refl
 
 pub acts : {C : Type 0} (e : Event) (s : Machine C) (t : ℕ) → spreads e ≡ false → is_at t (tid_of e) ≡ false → Touched.changes_act e s t ≡ false
-acts (Admit u) s t h g = not_or (u == t) false g refl
+acts (Admit u) s t h g = or_from (u == t) false g refl
 acts (Arrive k a) s t h g = absurd (true≢false h)
 acts (Ask u a) s t h g = absurd (true≢false h)
-acts (End u a) s t h g = not_or (u == t) false g refl
-acts (Decide u) s t h g = not_or (u == t) false g refl
-acts (Seal u) s t h g = not_or (u == t) false g refl
+acts (End u a) s t h g = or_from (u == t) false g refl
+acts (Decide u) s t h g = or_from (u == t) false g refl
+acts (Seal u) s t h g = or_from (u == t) false g refl
 acts _ s t h g = refl
 
 pub prepared : (e : Event) (t a : ℕ) → is_at t (tid_of e) ≡ false → Touched.changes_prepared e t a ≡ false
-prepared (Prepare u b) t a h = and_not (b == a) (u == t) h
+prepared (Prepare u b) t a h = and_right (b == a) (u == t) h
 prepared _ t a h = refl
 
 pub vouched : (e : Event) (t a : ℕ) → is_at t (tid_of e) ≡ false → Touched.changes_vouched e t a ≡ false
-vouched (Vouch u b) t a h = and_not (b == a) (u == t) h
+vouched (Vouch u b) t a h = and_right (b == a) (u == t) h
 vouched _ t a h = refl
 
 pub finished : (e : Event) (t a : ℕ) → is_at t (tid_of e) ≡ false → Touched.changes_finished e t a ≡ false
-finished (Finish u b) t a h = and_not (b == a) (u == t) h
+finished (Finish u b) t a h = and_right (b == a) (u == t) h
 finished _ t a h = refl
 
 pub votes : (e : Event) (t : ℕ) → is_at t (tid_of e) ≡ false → Touched.changes_votes e t ≡ false

@@ -8,6 +8,7 @@ use Rattle.protocol.specs.Events.{Event, Abort}
 use Rattle.protocol.specs.Conditions.{IsAllowed, refusal}
 use Rattle.protocol.specs.Effects.{after}
 use Rattle.protocol.specs.Schedule.{rank, is_rank_below, Ascends, IsEnabled}
+use Rattle.protocol_laws.proofs.first.Ordered.{filtered}
 use Rattle.protocol_ready.specs.Touched.{IsSound, is_touched}
 use Rattle.protocol_ready.specs.Lying.{live}
 use Rattle.protocol_ready.specs.Ready.{put_or_take, without, revised, touched, looked, AreEnough, AreRenewed, AreAll}
@@ -15,7 +16,7 @@ use Rattle.protocol_ready.proofs.Cited.{Framed, Ruled}
 use Rattle.protocol_ready.proofs.Listing.{Has, from_has, to_has, has_left, has_right, has_filter, from_filter}
 use Rattle.protocol_ready.proofs.TouchedParts.{control_stays}
 use Rattle.protocol_ready.proofs.AllListed.{listed_all, live_all, stays_allowed}
-use Rattle.protocol_ready.proofs.Ordered.{is_less, compared, one_event, put_has, put_from, ascends_put, ascends_filter, not_itself}
+use Rattle.protocol_ready.proofs.Ordered.{is_less, compared, one_event, put_has, put_from, ascends_put, not_itself}
 
 -- ---- two events are the same or not
 
@@ -72,7 +73,7 @@ left_by_one false e xs g h n = elim (same_or_apart g e) [ inl q ↦ absurd (n (s
 
 ascends_one : (b : Bool) (e : Event) (xs : List Event) → Ascends xs → Ascends (put_or_take b e xs)
 ascends_one true e xs h = ascends_put e xs h
-ascends_one false e xs h = ascends_filter _ xs h
+ascends_one false e xs h = filtered _ xs h
 
 -- ---- one by one
 

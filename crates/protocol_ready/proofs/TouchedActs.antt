@@ -6,12 +6,13 @@ use Rattle.std.proofs.lemmas.Bool.{eqb-true, eq-eqb, or_parts, true≢false, leb
 use Rattle.snap_base.specs.declared.transactions.TxResult.{TxResult}
 use Rattle.protocol.specs.Fixed.{Fixed, Next, Go, Ended}
 use Rattle.protocol.specs.Rivals.{Lock}
-use Rattle.protocol.specs.Parts.{Status, Live, Doomed, Decided, Sealed, Act, Joined, Pair, Book, Outcome, Machine}
+use Rattle.protocol.specs.Parts.{Act, Joined, Pair, Book, Outcome, Machine}
 use Rattle.protocol.specs.Events.{Event, Admit, Arrive, Ask, End, Abort, Prepare, Vouch, Decide, Seal, Finish}
 use Rattle.protocol.specs.Words.{is_value, is_among, holds, is_failure, is_doomed, is_live_act, is_vouched_everywhere, joined_of, act_of, has_act, outcome_of}
 use Rattle.protocol.specs.Spread.{raised, carried, is_crossed, crossed_out, doomed_by_order}
 use Rattle.protocol.specs.OnBook as book
 use Rattle.protocol.specs.Effects.{after, cell_at}
+use Rattle.protocol_laws.proofs.first.Statuses.{decided_doomed, sealed_doomed}
 use Rattle.protocol_ready.specs.Touched.{changes_doom, crossed_tids, risen_tids, asked_tids, changes_act, changes_prepared, changes_vouched, changes_finished, changes_votes, changes_left, is_abort}
 use Rattle.protocol_ready.proofs.TouchedParts.{find_append}
 
@@ -240,23 +241,10 @@ noted_holds {C} p t u true (Some x) xs h = by x.next
     by (Go b control) = refl
     by (Ended r) = act_holds p t u (book.with_result r) xs (λ x. refl) (λ _ x. h r x)
 
-decided_doom : (c : ℕ) (v : Bool) (st : Status) → is_doomed (book.decided_status c v st) ≡ is_doomed st
-decided_doom c true Live = refl
-decided_doom c false Live = refl
-decided_doom c v (Doomed x) = refl
-decided_doom c v (Decided d) = refl
-decided_doom c v (Sealed d) = refl
-
-sealed_doom : (st : Status) → is_doomed (book.sealed_status st) ≡ is_doomed st
-sealed_doom Live = refl
-sealed_doom (Doomed x) = refl
-sealed_doom (Decided d) = refl
-sealed_doom (Sealed d) = refl
-
 pub doom_test : {C : Type 0} (w : Fixed C) (e : Event) (s : Machine C) (t : ℕ) (q : Bool → Bool) → is_abort e ≡ false → changes_doom e s t ≡ false
     → holds (λ x. q (is_doomed x.status)) (act_of t (after w e s).book.acts) ≡ holds (λ x. q (is_doomed x.status)) (act_of t s.book.acts)
 unfolding after
 doom_test w (End u a) s t q z k = noted_holds (λ x. q (is_doomed x.status)) t u (has_act u (cell_at s a).entries) (outcome_of u (cell_at s a).outbox) s.book.acts (λ r x. refl)
-doom_test w (Decide u) s t q z k = act_holds (λ x. q (is_doomed x.status)) t u (book.decided_as s.book.next_c) s.book.acts (λ x. refl) (λ _ x. ap q (decided_doom s.book.next_c (is_value x.result) x.status))
-doom_test w (Seal u) s t q z k = act_holds (λ x. q (is_doomed x.status)) t u book.sealed s.book.acts (λ x. refl) (λ _ x. ap q (sealed_doom x.status))
+doom_test w (Decide u) s t q z k = act_holds (λ x. q (is_doomed x.status)) t u (book.decided_as s.book.next_c) s.book.acts (λ x. refl) (λ _ x. ap q (decided_doomed s.book.next_c (is_value x.result) x.status))
+doom_test w (Seal u) s t q z k = act_holds (λ x. q (is_doomed x.status)) t u book.sealed s.book.acts (λ x. refl) (λ _ x. ap q (sealed_doomed x.status))
 doom_test w e s t q z k = act_test w e s t (λ x. q (is_doomed x.status)) (λ x. refl) (plain (λ x. q (is_doomed x.status)) e t (λ b f x. refl)) z k

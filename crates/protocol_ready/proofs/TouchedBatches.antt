@@ -2,6 +2,7 @@
 use Rattle.std.specs.Prelude.{◌≡◌, refl, ℕ, ◌==◌, Bool, true, false, not, ◌&&◌, if◌then◌else◌, Option, Some, None, List, [], ◌∷◌, ◌++◌, ◌⊎◌, map, find, slice_get}
 use Rattle.std.specs.List.{list_any, list_all}
 use Rattle.snap_base.specs.declared.transactions.TxResult.{TxResult}
+use Rattle.snap_base.proofs.Lists.{get_other}
 use Rattle.std.proofs.Common.{sym, ap, inl, inr, ◌∙◌}
 use Rattle.std.proofs.lemmas.Bool.{eqb-false, eqb-true, eq-eqb, or_parts, true≢false}
 use Rattle.protocol.specs.Fixed.{Fixed, Next, Go, Ended}
@@ -12,7 +13,6 @@ use Rattle.protocol.specs.OnDesk as desk
 use Rattle.protocol.specs.Effects.{after, cell_at}
 use Rattle.protocol_ready.specs.Touched.{changes_stage, changes_note, changes_noted, changes_trim, changes_results, changes_result, changes_settled, changes_replied, is_abort}
 use Rattle.protocol_ready.proofs.TouchedParts.{find_append}
-use Rattle.protocol_ready.proofs.Listing.{get_other}
 
 -- ---- one batch among all
 

@@ -3,6 +3,7 @@ use Rattle.std.specs.Prelude.{◌≡◌, is_some, refl, ℕ, zero, suc, ◌%◌,
 use Rattle.std.specs.List.{list_any, AllByRecursion}
 use Rattle.std.proofs.Common.{arith, sym, ap, subst, ◌∙◌}
 use Rattle.std.proofs.lemmas.Bool.{eqb-false, eqb-true, eq-eqb, or_parts, and_parts, true≢false}
+use Rattle.snap_base.proofs.Lists.{get_other}
 use Rattle.protocol.specs.Fixed.{Fixed, Next, Go, Ended, Sliced}
 use Rattle.protocol.specs.Records.{LogRecord}
 use Rattle.protocol.specs.Parts.{Who, OfBatch, SubBatch, ControlMessage, Outcome, Log, Slot, Cell, Entry, BatchEntry, ActEntry, Machine}
@@ -13,7 +14,6 @@ use Rattle.protocol.specs.OnRing.{next_pacts, next_actors, first_sub}
 use Rattle.protocol.specs.OnPost as post
 use Rattle.protocol.specs.OnCell as cell
 use Rattle.protocol_ready.specs.Touched.{changes_inbox, changes_outbox, changes_entries, changes_done, changes_marks, changes_epoch, changes_tail, changes_log, changes_boxes, changes_subs, changes_sub, changes_control, makes_durable, made_durable}
-use Rattle.protocol_ready.proofs.Listing.{get_other}
 
 -- ---- logs
 

@@ -4,6 +4,7 @@ use Rattle.std.specs.List.{list_any, AllByRecursion}
 use Rattle.snap_base.specs.declared.transactions.TxResult.{TxResult}
 use Rattle.snap_base.specs.declared.transactions.TxResult.TheVariants.{Value, Fail}
 use Rattle.snap_base.specs.declared.verdicts.Place.{Place}
+use Rattle.snap_base.proofs.Lists.{all_of}
 use Rattle.std.proofs.Common.{arith, sym, ap, ◌∙◌}
 use Rattle.std.proofs.lemmas.Bool.{eqb-true, or_parts, and_parts, true≢false, ltb-false, le-leb}
 use Rattle.protocol.specs.Fixed.{Fixed, Next, Go, Ended}
@@ -119,7 +120,7 @@ if_both true x y v z e f = e
 if_both false x y v z e f = f
 
 -- at the same stage
-pact_same : (o : Option Cascade) (b c : Batch) (p : Pact) → c.bid ≡ b.bid → c.stage ≡ b.stage → pact_verdict o c p ≡ pact_verdict o b p
+pub pact_same : (o : Option Cascade) (b c : Batch) (p : Pact) → c.bid ≡ b.bid → c.stage ≡ b.stage → pact_verdict o c p ≡ pact_verdict o b p
 pact_same None b c p e f = rw (e, f) refl
 pact_same (Some x) b c p e f = refl
 
@@ -160,16 +161,12 @@ pact_map : (cs : List Cascade) (n : ℕ) (f : Batch → Batch) (bs : List Batch)
 pact_map cs n f [] h = refl
 pact_map cs n f (b ∷ bs) h = rw (h.0, pact_map cs n f bs h.1) refl
 
-every : {X : Type 0} (P : X → Type 0) (xs : List X) → ((x : X) → P x) → AllByRecursion P xs
-every P [] h = tt
-every P (x ∷ xs) h = (h x, every P xs h)
-
 pact_append : (cs : List Cascade) (n : ℕ) (new : Batch) (bs : List Batch) → list_any (λ p. p.tx == n) new.pacts ≡ false → verdict_of_pact cs n (bs ++ new ∷ []) ≡ verdict_of_pact cs n bs
 pact_append cs n new [] h = rw (in_batch_unnamed cs n new new.pacts h) refl
 pact_append cs n new (b ∷ bs) h = rw (pact_append cs n new bs h) refl
 
 pact_kept : (cs : List Cascade) (n j : ℕ) (f : Batch → Batch) (bs : List Batch) → ((b : Batch) → (f b).bid ≡ b.bid) → ((b : Batch) → (f b).stage ≡ b.stage) → ((b : Batch) → (f b).pacts ≡ b.pacts) → verdict_of_pact cs n (desk.changed_batch j f bs) ≡ verdict_of_pact cs n bs
-pact_kept cs n j f bs h g p = pact_map cs n _ bs (every _ bs (λ b. by (b.bid == j) b))
+pact_kept cs n j f bs h g p = pact_map cs n _ bs (all_of _ bs (λ b. by (b.bid == j) b))
   where
     by : (q : Bool) (b : Batch) → verdict_in_batch cs n (desk.change_if q f b) (desk.change_if q f b).pacts ≡ verdict_in_batch cs n b b.pacts
     by true b = ap (verdict_in_batch cs n (f b)) (p b) ∙ in_batch_same cs n b (f b) b.pacts (h b) (g b)

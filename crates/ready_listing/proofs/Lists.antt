@@ -1,10 +1,10 @@
 -- What lists have.
 use Rattle.std.specs.List.{flat_map, list_all}
 use Rattle.std.proofs.Common.{◌≡◌, ℕ, zero, suc, ◌+◌, ◌<◌, slice_index_or, Bool, true, false, ◌&&◌, ◌⊎◌, Contains, Some, slice_get, List, [], ◌∷◌, length, take, add-one, refl, sym, ap, subst, inl, inr, ◌∙◌, arith}
-use Rattle.std.proofs.lemmas.Bool.{cases_lt, true≢false, and_parts}
+use Rattle.std.proofs.lemmas.Bool.{true≢false, and_parts}
 use Rattle.std.proofs.lemmas.Option.{get_or_from_slice_get, same_Some, slice_get_within}
 use Rattle.std.proofs.lemmas.List.Elements.{Contains-append_left, Contains-append_right}
-use Rattle.protocol.specs.Words.{below}
+pub use Rattle.protocol_laws.proofs.first.Candidates.{in_below}
 
 pub first_of_all : {X : Type 0} (xs : List X) (x : X) → Contains (x ∷ xs) x
 first_of_all xs x = (0, omega arith, refl)
@@ -25,13 +25,6 @@ in_flat_map f [] x y h g = absurd (omega (arith, h.1))
 in_flat_map f (z ∷ xs) x y h g = elim (of_cons xs z x h) [
   | inl e ↦ Contains-append_left (f z) (flat_map f xs) y (subst (λ v. Contains (f v) y) (sym e) g)
   | inr i ↦ Contains-append_right (f z) (flat_map f xs) y (in_flat_map f xs x y i g)
-]
-
-pub in_below : (i n : ℕ) → i < n → Contains (below n) i
-in_below i zero h = absurd (omega (arith, h))
-in_below i (suc n) h = elim (cases_lt i n) [
-  | inl a ↦ Contains-append_left (below n) (n ∷ []) i (in_below i n a)
-  | inr b ↦ Contains-append_right (below n) (n ∷ []) i (subst (λ k. Contains (n ∷ []) k) (omega (arith, h, b)) (first_of_all [] n))
 ]
 
 -- ---- a test of all

@@ -1,14 +1,15 @@
 -- Which parts are at hand.
 use Rattle.std.specs.List.{list_all, AllByRecursion}
-use Rattle.std.proofs.Common.{◌≡◌, ℕ, zero, suc, ◌+◌, ◌<◌, Bool, true, false, ◌&&◌, Option, Some, None, is_some, List, [], ◌∷◌, ◌++◌, length, map, option_map, slice_get, refl, sym, ap, ◌∙◌, arith}
+use Rattle.std.proofs.Common.{◌≡◌, ℕ, ◌+◌, ◌<◌, Bool, true, false, ◌&&◌, Option, Some, None, is_some, List, [], ◌∷◌, ◌++◌, length, map, option_map, slice_get, refl, sym, ap, ◌∙◌, arith}
 use Rattle.std.proofs.lemmas.Bool.{true≢false, and_parts}
 use Rattle.std.proofs.lemmas.List.{length-map}
 use Rattle.std.proofs.lemmas.Option.{slice_get-map}
+use Rattle.snap_base.proofs.Lists.{one_at, get_behind}
 use Rattle.aml_slice.specs.Controls.{Rest}
 use Rattle.protocol.specs.Events.{Event, footprint, cell}
 use Rattle.protocol.specs.Fixed.{Fixed}
 use Rattle.protocol.specs.Parts.{Cell}
-use Rattle.snap_hand.proofs.InLists.{behind, behind_four}
+use Rattle.snap_hand.proofs.InLists.{behind_four}
 use Rattle.snap_hand.specs.Hands.{Parts, Has, HasFootprint, are_there, is_at_hand, is_not_out}
 use Rattle.ready_listing.specs.Chosen.{is_asked}
 
@@ -42,33 +43,25 @@ is_had w h e a = all_had h (footprint w.text.logs e) a
 
 -- ---- single parts
 
-pub lacking : {X : Type 0} (o : Option X) → o ≡ None → is_some o ≡ true → ⊥
-lacking o e q = true≢false (sym q ∙ ap is_some e)
-
-pub at_place : {X : Type 0} (xs : List X) (i : ℕ) → i < length xs → (x : X) × (slice_get xs i ≡ Some x)
-at_place [] i h = absurd (omega (arith, h))
-at_place (x ∷ xs) zero h = (x, refl)
-at_place (x ∷ xs) (suc i) h = at_place xs i (omega (arith, h))
-
 -- the cell of an actor, by the place of its part
 pub cell_shown : (h : Parts) (logs a : ℕ) → length h.logs ≡ logs → slice_get (are_there h) (cell logs a) ≡ slice_get (map is_some h.cells) a
 cell_shown h logs a same =
     behind_four (is_some h.ring) (is_some h.book) (is_some h.post) (is_some h.desk) (map is_some h.logs ++ map is_some h.cells) (logs + a) (cell logs a) (omega arith)
-    ∙ behind (map is_some h.logs) (map is_some h.cells) a (logs + a) (ap (λ n. n + a) (sym same ∙ sym (length-map h.logs is_some)))
+    ∙ get_behind (map is_some h.logs) (map is_some h.cells) a (logs + a) (ap (λ n. n + a) (sym same ∙ sym (length-map h.logs is_some)))
 
 -- the actor is there, and its cell is or is not
 pub cell_is_out : (h : Parts) (a : ℕ) → slice_get h.cells a ≡ Some None → is_not_out (slice_get (map is_some h.cells) a) ≡ false
 cell_is_out h a e = ap is_not_out (slice_get-map is_some h.cells a ∙ ap (option_map is_some) e)
 
 pub cell_there : (h : Parts) (a : ℕ) → a < length h.cells → is_not_out (slice_get (map is_some h.cells) a) ≡ true → (x : Cell Rest) × (slice_get h.cells a ≡ Some (Some x))
-cell_there h a within q = by (at_place h.cells a within).0 (at_place h.cells a within).1
+cell_there h a within q = by (one_at h.cells a within).0 (one_at h.cells a within).1
   where
     by : (o : Option (Cell Rest)) → slice_get h.cells a ≡ Some o → (x : Cell Rest) × (slice_get h.cells a ≡ Some (Some x))
     by None e = absurd (true≢false (sym q ∙ cell_is_out h a e))
     by (Some x) e = (x, e)
 
 pub cell_lacks : (h : Parts) (a : ℕ) → a < length h.cells → is_not_out (slice_get (map is_some h.cells) a) ≡ false → slice_get h.cells a ≡ Some None
-cell_lacks h a within q = by (at_place h.cells a within).0 (at_place h.cells a within).1
+cell_lacks h a within q = by (one_at h.cells a within).0 (one_at h.cells a within).1
   where
     by : (o : Option (Cell Rest)) → slice_get h.cells a ≡ Some o → slice_get h.cells a ≡ Some None
     by None e = e

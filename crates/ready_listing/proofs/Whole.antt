@@ -6,6 +6,8 @@ use Rattle.std.proofs.lemmas.Bool.{true≢false, cases_lt}
 use Rattle.std.proofs.lemmas.List.Elements.{Contains-append_left, Contains-append_right}
 use Rattle.std.proofs.lemmas.List.Elements.{filter-append}
 use Rattle.std.proofs.lemmas.Option.{same_Some, slice_get_within}
+use Rattle.snap_base.proofs.Options.{is_no_none}
+use Rattle.snap_base.proofs.Lists.{one_at}
 use Rattle.aml_slice.specs.Controls.{Rest}
 use Rattle.book_part.specs.Halves.{Halves}
 use Rattle.batch_table.specs.Listed.{is_unreplied, unreplied_below}
@@ -21,7 +23,7 @@ use Rattle.snap_hand.specs.Hands.{Parts, Fits, IsHandOf, is_at_hand, is_not_out}
 use Rattle.ready_listing.specs.Chosen.{is_asked}
 use Rattle.ready_listing.specs.Listed.{on_ring, on_post, on_cell, of_log, on_desk, on_book, on_replies, of_some, of_place, on_place, upto_of, on_hand}
 use Rattle.ready_listing.proofs.Lists.{first_of_all, in_flat_map, in_below, all_has, placed}
-use Rattle.ready_listing.proofs.Parts.{lacking, at_place, cell_shown, cell_is_out}
+use Rattle.ready_listing.proofs.Parts.{cell_shown, cell_is_out}
 use Rattle.ready_listing.proofs.Told.{post_lists, cell_lists, desk_lists, book_lists, answers_list}
 
 -- below more there are more
@@ -43,10 +45,10 @@ module _ (w : Fixed Rest) (h : Parts) (s : Machine Rest) (fits : Fits h s) (plac
       where
         by : (o : Option Ring) → h.ring ≡ o → RingTells (is_asked w h) w.text s.ring es
         by None e = record {
-          submit = λ q a. absurd (lacking h.ring e (has_part (Submit s.ring.next_tx) ring q 0 refl));
-          pass = λ q a b. absurd (lacking h.ring e (has_part (Pass ((s.ring.holder + 1) % w.text.coordinators)) ring q 0 refl));
-          form = λ q a. absurd (lacking h.ring e (has_part (Form s.ring.next_bid) ring q 0 refl));
-          admit = λ q a. absurd (lacking h.ring e (has_part (Admit s.ring.next_tid) ring q 0 refl));
+          submit = λ q a. absurd (is_no_none h.ring e (has_part (Submit s.ring.next_tx) ring q 0 refl));
+          pass = λ q a b. absurd (is_no_none h.ring e (has_part (Pass ((s.ring.holder + 1) % w.text.coordinators)) ring q 0 refl));
+          form = λ q a. absurd (is_no_none h.ring e (has_part (Form s.ring.next_bid) ring q 0 refl));
+          admit = λ q a. absurd (is_no_none h.ring e (has_part (Admit s.ring.next_tid) ring q 0 refl));
         }
         by (Some r) e =
             let had : (f : Event) (i : ℕ) → slice_get (on_ring w.text.coordinators r) i ≡ Some f → Contains es f = λ f i g. more f (subst (λ o. Contains (of_some (on_ring w.text.coordinators) o) f) (sym e) (placed (on_ring w.text.coordinators r) i f g)) in
@@ -63,11 +65,11 @@ module _ (w : Fixed Rest) (h : Parts) (s : Machine Rest) (fits : Fits h s) (plac
       where
         by : (o : Option (Post Rest)) → h.post ≡ o → PostTells (is_asked w h) s.post es
         by None e = record {
-          arrive = λ k a q g. absurd (lacking h.post e (has_part (Arrive k a) post q 1 refl));
-          drop_sub = λ k a q g. absurd (lacking h.post e (has_part (DropSub k a) post q 1 refl));
-          ask = λ t a q g. absurd (lacking h.post e (has_part (Ask t a) post q 1 refl));
-          take = λ t a q g. absurd (lacking h.post e (has_part (Take t a) post q 0 refl));
-          drop_control = λ t q g. absurd (lacking h.post e (has_part (DropControl t) post q 1 refl));
+          arrive = λ k a q g. absurd (is_no_none h.post e (has_part (Arrive k a) post q 1 refl));
+          drop_sub = λ k a q g. absurd (is_no_none h.post e (has_part (DropSub k a) post q 1 refl));
+          ask = λ t a q g. absurd (is_no_none h.post e (has_part (Ask t a) post q 1 refl));
+          take = λ t a q g. absurd (is_no_none h.post e (has_part (Take t a) post q 0 refl));
+          drop_control = λ t q g. absurd (is_no_none h.post e (has_part (DropControl t) post q 1 refl));
         }
         by (Some p) e = subst (λ x. PostTells (is_asked w h) x es) (sym (fits.post p e)) (enough p (post_lists (is_asked w h) es p (λ f g. more f (subst (λ o. Contains (of_some on_post o) f) (sym e) g))))
 
@@ -76,11 +78,11 @@ module _ (w : Fixed Rest) (h : Parts) (s : Machine Rest) (fits : Fits h s) (plac
       where
         by : (o : Option Desk) → h.desk ≡ o → DeskTells (is_asked w h) s.desk es
         by None e = record {
-          note = λ k a q g. absurd (lacking h.desk e (has_part (Note k a) desk q 0 refl));
-          commit = λ k q g. absurd (lacking h.desk e (has_part (Commit k) desk q 0 refl));
-          abort = λ k q g. absurd (lacking h.desk e (has_part (Abort k) desk q 2 refl));
-          settle = λ k q g. absurd (lacking h.desk e (has_part (Settle k) desk q 0 refl));
-          trim = λ k a q g. absurd (lacking h.desk e (has_part (Trim k a) desk q 0 refl));
+          note = λ k a q g. absurd (is_no_none h.desk e (has_part (Note k a) desk q 0 refl));
+          commit = λ k q g. absurd (is_no_none h.desk e (has_part (Commit k) desk q 0 refl));
+          abort = λ k q g. absurd (is_no_none h.desk e (has_part (Abort k) desk q 2 refl));
+          settle = λ k q g. absurd (is_no_none h.desk e (has_part (Settle k) desk q 0 refl));
+          trim = λ k a q g. absurd (is_no_none h.desk e (has_part (Trim k a) desk q 0 refl));
         }
         by (Some d) e = subst (λ x. DeskTells (is_asked w h) x es) (sym (fits.desk d e)) (enough d (desk_lists (is_asked w h) es d (λ f g. more f (subst (λ o. Contains (of_some on_desk o) f) (sym e) g))))
 
@@ -89,11 +91,11 @@ module _ (w : Fixed Rest) (h : Parts) (s : Machine Rest) (fits : Fits h s) (plac
       where
         by : (o : Option Halves) → h.book ≡ o → BookTells (is_asked w h) s.book es
         by None e = record {
-          prepare = λ t a q g i. absurd (lacking h.book e (has_part (Prepare t a) book q 0 refl));
-          vouch = λ t a q g. absurd (lacking h.book e (has_part (Vouch t a) book q 0 refl));
-          decide = λ t q g. absurd (lacking h.book e (has_part (Decide t) book q 0 refl));
-          seal = λ t q g. absurd (lacking h.book e (has_part (Seal t) book q 0 refl));
-          finish = λ t a q g i. absurd (lacking h.book e (has_part (Finish t a) book q 0 refl));
+          prepare = λ t a q g i. absurd (is_no_none h.book e (has_part (Prepare t a) book q 0 refl));
+          vouch = λ t a q g. absurd (is_no_none h.book e (has_part (Vouch t a) book q 0 refl));
+          decide = λ t q g. absurd (is_no_none h.book e (has_part (Decide t) book q 0 refl));
+          seal = λ t q g. absurd (is_no_none h.book e (has_part (Seal t) book q 0 refl));
+          finish = λ t a q g i. absurd (is_no_none h.book e (has_part (Finish t a) book q 0 refl));
         }
         by (Some b) e = enough (book_lists (is_asked w h) es s.book (λ f g. more f (subst (λ o. Contains (of_some (λ x. on_book s.book) o) f) (sym e) g)))
 
@@ -108,7 +110,7 @@ module _ (w : Fixed Rest) (h : Parts) (s : Machine Rest) (fits : Fits h s) (plac
     answers_tell enough more = by h.desk refl
       where
         by : (o : Option Desk) → h.desk ≡ o → AnswersTell (is_asked w h) s.book s.desk es
-        by None e = λ n q a v. absurd (lacking h.desk e (has_part (Reply n) desk q 1 refl))
+        by None e = λ n q a v. absurd (is_no_none h.desk e (has_part (Reply n) desk q 1 refl))
         by (Some d) e =
             let upto = upto_of w.text h.ring in
             let lists = answers_list (is_asked w h) es upto d (λ f g. more f (subst (λ o. Contains (of_some (on_replies upto) o) f) (sym e) g)) in
@@ -121,7 +123,7 @@ module _ (w : Fixed Rest) (h : Parts) (s : Machine Rest) (fits : Fits h s) (plac
     cell_tells : ((cascades a : ℕ) (c : Cell Rest) → CellLists (is_asked w h) cascades a c es → CellTells (is_asked w h) cascades a c es)
         → ((f : Event) → Contains (flat_map (on_place h) (below (length h.cells))) f → Contains es f)
         → (a : ℕ) (c : Cell Rest) → slice_get s.cells a ≡ Some c → CellTells (is_asked w h) (epoch s.book) a c es
-    cell_tells enough more a c at = by (at_place h.cells a (within_cells a c at)).0 (at_place h.cells a (within_cells a c at)).1
+    cell_tells enough more a c at = by (one_at h.cells a (within_cells a c at)).0 (one_at h.cells a (within_cells a c at)).1
       where
         by : (o : Option (Cell Rest)) → slice_get h.cells a ≡ Some o → CellTells (is_asked w h) (epoch s.book) a c es
         by None e =

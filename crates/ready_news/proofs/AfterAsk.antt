@@ -16,12 +16,13 @@ use Rattle.protocol.specs.Rivals.{Lock}
 use Rattle.protocol.specs.Spread.{raised, is_crossed, crossed_out}
 use Rattle.protocol.specs.Verdicts.{died, out_of_order}
 use Rattle.protocol.specs.Words.{holds, act_of, joined_of, is_value, is_failure, is_live_status, is_doomed, is_decided, is_sealed, is_live_act, is_vouched_everywhere}
+use Rattle.protocol_records.proofs.recording.RecordsTold.{holds_weaker}
 use Rattle.protocol_ready.proofs.TouchedListed.{no}
 use Rattle.ready_news.specs.InBook.{has_begun}
 use Rattle.ready_news.specs.New.{is_new}
 use Rattle.ready_news.proofs.AfterRuns.{Holding}
 use Rattle.ready_news.proofs.Asking.{group_at, older_at}
-use Rattle.ready_news.proofs.InBook.{Besides, NewAfter, Unbegun, are_out, is_out, there, out_prepares, out_vouches, out_decides, out_seals, prepares_begun, vouches_begun, decides_begun, seals_begun, finishes_begun}
+use Rattle.ready_news.proofs.InBook.{Besides, NewAfter, Unbegun, are_out, is_out, out_prepares, out_vouches, out_decides, out_seals, prepares_begun, vouches_begun, decides_begun, seals_begun, finishes_begun}
 use Rattle.ready_news.proofs.InPost.{holds_back, raised_back, changed_back}
 use Rattle.ready_news.proofs.PostTold.{asks_of}
 
@@ -108,7 +109,7 @@ module _ (w : Fixed Rest) (u a : ℕ) (s : Machine Rest) (t : ℕ) (other : (u =
   finish_back : (c : ℕ) → (holds is_out (act_of t (after w (Ask u a) s).book.acts) ≡ true → ⊥) → IsAllowed w (Finish t c) (after w (Ask u a) s) → IsAllowed w (Finish t c) s
   unfolding conditions after
   finish_back c stays h = (
-    there (λ x. is_sealed x.status) (λ x. is_doomed x.status || is_sealed x.status) (act_of t s.book.acts) (λ x g. or_right (is_doomed x.status) (is_sealed x.status) g)
+    holds_weaker (λ x. is_sealed x.status) (λ x. is_doomed x.status || is_sealed x.status) (act_of t s.book.acts) (λ x g. or_right (is_doomed x.status) (is_sealed x.status) g)
         (other_back (λ x. is_sealed x.status) (crossed_undone (λ x. is_sealed x.status) (λ x v g. no g)) (λ x k g. g) (older_at u a s) (group_at u a s) u a _ t s.book other (is_over _ stays h.0)),
     (other_back (λ x. holds (λ p. not p.finished) (joined_of c x)) (λ a x g. g) (λ x k g. g) (older_at u a s) (group_at u a s) u a _ t s.book other h.1.0, tt),
   )

@@ -1,8 +1,9 @@
 -- Whom a cascade gives a verdict: the transactions of the batches from the one that fails on, and ACTs that stand behind it.
-use Rattle.std.specs.Prelude.{◌≡◌, refl, ℕ, ◌+◌, ◌-◌, ◌<◌, ◌≤◌, ◌==◌, zero, suc, nat_le, Bool, true, false, ◌&&◌, if◌then◌else◌, is_some, Option, Some, None, List, [], ◌∷◌, ◌++◌, ◌⊎◌, length, map, find}
+use Rattle.std.specs.Prelude.{◌≡◌, refl, ℕ, ◌+◌, ◌-◌, ◌<◌, ◌≤◌, ◌==◌, zero, suc, nat_le, Bool, true, false, ◌&&◌, if◌then◌else◌, is_some, Some, List, [], ◌∷◌, ◌++◌, ◌⊎◌, length, map, find}
 use Rattle.std.specs.List.{list_any}
 use Rattle.std.proofs.Common.{arith, sym, ap, subst, inl, inr, ◌∙◌}
 use Rattle.std.proofs.lemmas.Bool.{eqb-true, eqb-false, cases_lt, or_parts}
+use Rattle.snap_base.proofs.Booleans.{not_so}
 use Rattle.protocol.specs.Numbers.{from}
 use Rattle.protocol.specs.OnBook as book
 use Rattle.protocol.specs.OnDesk as desk
@@ -10,7 +11,8 @@ use Rattle.protocol.specs.Parts.{Doomed, Act, Cascade, Pact, Batch}
 use Rattle.protocol.specs.Verdicts.{or_else, taken_along, pact_verdict, act_verdict, verdict_in_batch, verdict_of_pact, verdict_of_act}
 use Rattle.protocol.specs.Words.{holds, covers, batch_of, is_live_status}
 use Rattle.protocol_ready.proofs.Listing.{Has}
-use Rattle.ready_news.proofs.Replies.{no, either_some, first_some}
+use Rattle.protocol_ready.proofs.TouchedVerdicts.{pact_same}
+use Rattle.ready_news.proofs.Replies.{either_some, first_some}
 
 -- the batch is one of those, and has this transaction
 abbrev pub is_cut : ℕ → ℕ → Batch → Bool
@@ -30,16 +32,12 @@ covered_as j (d ∷ cs) c h = by (covers j d) (covered_as j cs c h)
     by true e = refl
     by false e = e
 
-pact_as : (o : Option Cascade) (b c : Batch) (p : Pact) → c.bid ≡ b.bid → c.stage ≡ b.stage → pact_verdict o c p ≡ pact_verdict o b p
-pact_as (Some d) b c p i j = refl
-pact_as None b c p i j = rw (i, j) refl
-
 in_batch_as : (n : ℕ) (cs ds : List Cascade) (b c : Batch) (ps : List Pact) → find (covers c.bid) ds ≡ find (covers b.bid) cs → c.bid ≡ b.bid → c.stage ≡ b.stage → is_some (verdict_in_batch ds n c ps) ≡ true → is_some (verdict_in_batch cs n b ps) ≡ true
 in_batch_as n cs ds b c [] e i j h = h
 in_batch_as n cs ds b c (p ∷ ps) e i j h = by (p.tx == n) h (in_batch_as n cs ds b c ps e i j)
   where
     same : pact_verdict (find (covers c.bid) ds) c p ≡ pact_verdict (find (covers b.bid) cs) b p
-    same = ap (λ o. pact_verdict o c p) e ∙ pact_as (find (covers b.bid) cs) b c p i j
+    same = ap (λ o. pact_verdict o c p) e ∙ pact_same (find (covers b.bid) cs) b c p i j
 
     by : (v : Bool) → is_some (if v then pact_verdict (find (covers c.bid) ds) c p else verdict_in_batch ds n c ps) ≡ true → (is_some (verdict_in_batch ds n c ps) ≡ true → is_some (verdict_in_batch cs n b ps) ≡ true) → is_some (if v then pact_verdict (find (covers b.bid) cs) b p else verdict_in_batch cs n b ps) ≡ true
     by true g k = subst (λ v. is_some v ≡ true) same g
@@ -54,7 +52,7 @@ module _ (k by n : ℕ) (c : Cascade) (first : c.first ≡ k) (cs : List Cascade
   batch_as b e h = at (nat_le k b.bid) refl e
     where
       at : (v : Bool) → nat_le k b.bid ≡ v → (v && list_any (λ p. p.tx == n) b.pacts) ≡ false → is_some (verdict_in_batch cs n b b.pacts) ≡ true
-      at true q g = no (none_named n (cs ++ c ∷ []) (desk.taken k b) b.pacts g h)
+      at true q g = not_so (none_named n (cs ++ c ∷ []) (desk.taken k b) b.pacts g h)
       at false q g = in_batch_as n cs (cs ++ c ∷ []) b (desk.taken k b) b.pacts (covered_as b.bid cs c (ap (λ v. v && nat_le b.bid c.upto) (ap (λ m. nat_le m b.bid) first ∙ q))) refl refl h
 
   batches_as : (bs : List Batch) → list_any (is_cut k n) bs ≡ false → is_some (verdict_of_pact (cs ++ c ∷ []) n (map (desk.taken k) bs)) ≡ true → is_some (verdict_of_pact cs n bs) ≡ true
@@ -75,7 +73,7 @@ module _ (k by n : ℕ) (c : Cascade) (first : c.first ≡ k) (cs : List Cascade
           → is_some (if v then act_verdict (if u then Doomed (taken_along k by) else x.status) x.m x.result else verdict_of_act n (map (book.cascaded k by) xs)) ≡ true
           → (is_some (verdict_of_act n (map (book.cascaded k by) xs)) ≡ true → is_some (verdict_of_act n xs) ≡ true)
           → is_some (if v then act_verdict x.status x.m x.result else verdict_of_act n xs) ≡ true
-      at true true f g r = no (sym f)
+      at true true f g r = not_so (sym f)
       at true false f g r = r g
       at false true f g r = g
       at false false f g r = r g
@@ -102,7 +100,7 @@ is_within low b (x ∷ bs) e (inl i) = let head : x.bid ≡ low = cc e in let sa
 is_within low b (x ∷ bs) e (inr h) = let tail : map (λ b. b.bid) bs ≡ from (low + 1) (length bs) = cc e in let r = is_within (low + 1) b bs tail h in (omega (arith, r.0), omega (arith, r.1))
 
 pub is_above : (low k : ℕ) (test : Batch → Bool) (bs : List Batch) → map (λ b. b.bid) bs ≡ from low (length bs) → holds test (batch_of k bs) ≡ true → low ≤ k
-is_above low k test [] e h = no h
+is_above low k test [] e h = not_so h
 is_above low k test (b ∷ bs) e h =
     let head : b.bid ≡ low = cc e in
     let tail : map (λ b. b.bid) bs ≡ from (low + 1) (length bs) = cc e in

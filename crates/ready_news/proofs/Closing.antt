@@ -1,7 +1,7 @@
 -- Where a PACT that has ended may be closed: on actors of its batch, which its entry on one actor tells.
 use Rattle.std.specs.Prelude.{◌≡◌, refl, ℕ, ◌+◌, ◌≤◌, ◌==◌, Bool, true, false, ◌&&◌, ◌||◌, if◌then◌else◌, is_some, Option, Some, None, List, [], ◌∷◌, map, not}
 use Rattle.std.specs.List.{list_any, AllByRecursion}
-use Rattle.std.proofs.Common.{arith, sym, ap, subst, inl, inr, ◌∙◌}
+use Rattle.std.proofs.Common.{arith, sym, ap, subst, ◌∙◌}
 use Rattle.std.proofs.lemmas.Bool.{and_parts, eqb-true}
 use Rattle.batch_table.specs.Listed.{actors_in}
 use Rattle.protocol.specs.Numbers.{flat, times, one_if}
@@ -11,13 +11,7 @@ use Rattle.protocol_laws.specs.FromDesk.{EntryOf, is_declared, is_pact_of}
 use Rattle.protocol_laws.proofs.first.Times.{times_cons, times_append}
 use Rattle.protocol_ready.proofs.Listing.{Has, has_map, some, found_in, any_of}
 use Rattle.protocol_ready.proofs.TouchedListed.{no}
-
--- ---- what all have, one of them has
-
-all_has : {X : Type 0} (P : X → Type 0) (xs : List X) (x : X) → AllByRecursion P xs → Has xs x → P x
-all_has P [] x h c = absurd c
-all_has P (y ∷ xs) x h (inl e) = subst P e h.0
-all_has P (y ∷ xs) x h (inr c) = all_has P xs x h.1 c
+use Rattle.ready_news.proofs.NewDrops.{all_are}
 
 -- ---- a tid is of one batch
 
@@ -62,7 +56,7 @@ one_batch u j k (b ∷ bs) few h g = by (b.bid == j) refl (b.bid == k) refl h g 
 slot_of : (bs : List Batch) (k u : ℕ) (slots : List Slot) (p : Slot → Bool) → ((s : Slot) → p s ≡ true → s.tid ≡ u) → AllByRecursion (λ s. is_pact_of s.tid k bs ≡ true) slots → list_any p slots ≡ true → is_pact_of u k bs ≡ true
 slot_of bs k u slots p same all h =
     let s = any_of p slots h in
-    subst (λ n. is_pact_of n k bs ≡ true) (same s.it s.does) (all_has (λ s. is_pact_of s.tid k bs ≡ true) slots s.it all s.has)
+    subst (λ n. is_pact_of n k bs ≡ true) (same s.it s.does) (all_are (λ s. is_pact_of s.tid k bs ≡ true) slots s.it all s.has)
 
 -- whose the PACT is on one actor
 pub who_is : (a u k : ℕ) (bs : List Batch) (es : List Entry) → AllByRecursion (EntryOf a bs) es → who_on u es ≡ OfBatch k → is_pact_of u k bs ≡ true
@@ -81,7 +75,7 @@ who_is a u k bs (e ∷ es) all h = by e all.0 (is_entry_of u e) refl h (who_is a
 pub declared_where : (a u k : ℕ) (bs : List Batch) (es : List Entry) → AllByRecursion (EntryOf a bs) es → times u (tids_in bs) ≤ 1 → is_pact_of u k bs ≡ true → has_undone u es ≡ true → Has (actors_in (batch_of k bs)) a
 declared_where a u k bs es all few of_k h =
     let e = any_of (is_undone u) es h in
-    by e.it (all_has (EntryOf a bs) es e.it all e.has) e.does
+    by e.it (all_are (EntryOf a bs) es e.it all e.has) e.does
   where
     placed : (o : Option Batch) → holds (λ b. is_some (declared_of a b)) o ≡ true → Has (actors_in o) a
     placed None g = no g

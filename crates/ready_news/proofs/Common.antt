@@ -6,13 +6,14 @@ use Rattle.std.proofs.lemmas.Grind.{flat_map-append}
 use Rattle.std.proofs.lemmas.List.{map_more, take_all}
 use Rattle.std.proofs.lemmas.List.Elements.{Contains-append_left, Contains-append_right, filter-append}
 use Rattle.std.proofs.lemmas.Option.{slice_get-map}
+use Rattle.snap_base.proofs.Lists.{one_at}
 use Rattle.aml_slice.specs.Controls.{Rest}
 use Rattle.book_part.specs.Halves.{Halves}
 use Rattle.core_events.specs.Meant.{event_meant}
 use Rattle.core_events.specs.declared.events.Event as code
 use Rattle.ready_listing.specs.Listed.{Adds}
 use Rattle.ready_listing.proofs.Adding.{adds_both}
-use Rattle.ready_listing.proofs.Parts.{at_place, cell_shown}
+use Rattle.ready_listing.proofs.Parts.{cell_shown}
 use Rattle.protocol.specs.Conditions.{IsAllowed, refusal}
 use Rattle.protocol.specs.Effects.{after}
 use Rattle.protocol.specs.Events.{Event, cell}
@@ -163,7 +164,7 @@ module _ (h : Parts) (whole : IsWhole h) where
   desk_there = there h.desk (λ e. whole 3 (ap Some e))
 
   pub cell_is_there : (logs a : ℕ) → length h.logs ≡ logs → a < length h.cells → (x : Cell Rest) × (slice_get h.cells a ≡ Some (Some x))
-  cell_is_there logs a same within = by (at_place h.cells a within).0 (at_place h.cells a within).1
+  cell_is_there logs a same within = by (one_at h.cells a within).0 (one_at h.cells a within).1
     where
       shown : (o : Option (Cell Rest)) → slice_get h.cells a ≡ Some o → slice_get (are_there h) (cell logs a) ≡ Some (is_some o)
       shown o e = cell_shown h logs a same ∙ (slice_get-map is_some h.cells a ∙ ap (option_map is_some) e)

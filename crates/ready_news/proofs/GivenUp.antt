@@ -3,6 +3,7 @@ use Rattle.std.specs.Prelude.{◌≡◌, refl, ℕ, suc, ◌<◌, ◌≤◌, ◌
 use Rattle.std.specs.List.{list_any, list_all}
 use Rattle.std.proofs.Common.{arith, sym, ap, subst, inl, inr, ◌∙◌}
 use Rattle.std.proofs.lemmas.Bool.{eqb-true, eq-eqb, and_parts, false≢true, leb-true}
+use Rattle.snap_base.proofs.Booleans.{not_so}
 use Rattle.book_part.specs.Listed.{live_tids}
 use Rattle.ready_listing.proofs.Lists.{first_of_all, in_flat_map}
 use Rattle.protocol.specs.Events.{Reply}
@@ -18,7 +19,6 @@ use Rattle.order_book.specs.Asked.{tx_of}
 use Rattle.ready_news.specs.GivenUp.{given_up_tids}
 use Rattle.ready_news.specs.InAnswers.{replies_of, of_tx, of_given_up}
 use Rattle.ready_news.proofs.Cascading.{falls}
-use Rattle.ready_news.proofs.Replies.{no}
 
 -- ---- one ACT of a tid
 
@@ -28,7 +28,7 @@ more_times false x xs = omega arith
 
 one_time : (b : Bool) (x : ℕ) (xs : List ℕ) → b ≡ true → length (if b then x ∷ xs else xs) ≡ suc (length xs)
 one_time true x xs e = refl
-one_time false x xs e = no e
+one_time false x xs e = not_so e
 
 has_times : (xs : List Act) (x : Act) → Has xs x → 1 ≤ times x.tid (map (λ y. y.tid) xs)
 has_times [] x h = absurd h
@@ -44,7 +44,7 @@ found_is (y ∷ ys) x once (inr g) = by (y.tid == x.tid) refl once (λ l. found_
     by true e l k = absurd (omega (arith, l, has_times ys x g))
     by false e l k = k l
 
-from_map : {X Y : Type 0} (f : X → Y) (xs : List X) (y : Y) → Has (map f xs) y → (x : X) × (Has xs x × (f x ≡ y))
+pub from_map : {X Y : Type 0} (f : X → Y) (xs : List X) (y : Y) → Has (map f xs) y → (x : X) × (Has xs x × (f x ≡ y))
 from_map f [] y h = absurd h
 from_map f (x ∷ xs) y (inl e) = (x, (inl refl, e))
 from_map f (x ∷ xs) y (inr h) = let r = from_map f xs y h in (r.0, (inr r.1.0, r.1.1))
@@ -111,7 +111,7 @@ pub record Known (acts : List Act) : Type 0 where
   pub numbers : (t j : ℕ) (x : Act) → act_of t acts ≡ Some x → is_live_status x.status ≡ true → x.n ≡ Some j → (x.m < j) × (is_empty x.places ≡ false)
 
 numbered : (m : ℕ) (o : Option ℕ) → reaches m o ≡ true → (j : ℕ) × ((o ≡ Some j) × (j ≤ m))
-numbered m None h = no h
+numbered m None h = not_so h
 numbered m (Some j) h = (j, (refl, leb-true j m h))
 
 -- of an ACT as it is after the event, made of one as it was: it crosses
@@ -182,7 +182,7 @@ module _ (acts : List Act) (known : Known acts) (ps : List Pair) (t a m : ℕ) (
       reached_some m (Some j) h = refl
 
       some_is : (o : Option ℕ) → is_some o ≡ true → (j : ℕ) × (o ≡ Some j)
-      some_is None h = no h
+      some_is None h = not_so h
       some_is (Some j) h = (j, refl)
 
       placed : (z : Act) → Has acts z → (c : Bool) → (x : Act) → book.change_if c (book.joins a m) z ≡ x → is_live_status x.status ≡ true → is_some x.n ≡ true → (is_empty x.places ≡ false) × (list_all (λ p. p.finished) x.places ≡ false)

@@ -1,12 +1,10 @@
 -- What is listed of ACTs tells what is new there.
-use Rattle.std.specs.Prelude.{◌≡◌, refl, ℕ, ◌≤◌, ◌%◌, ◌==◌, not, Bool, true, false, ◌&&◌, ◌||◌, is_some, Option, Some, None, List, [], ◌∷◌, ◌++◌, map, filter, Contains}
+use Rattle.std.specs.Prelude.{◌≡◌, refl, ℕ, ◌≤◌, ◌%◌, ◌==◌, not, Bool, true, false, ◌&&◌, ◌||◌, is_some, Option, Some, None, List, [], ◌++◌, map, filter, Contains}
 use Rattle.std.specs.List.{flat_map}
 use Rattle.std.proofs.Common.{sym, ap, subst, inl, inr, ◌∙◌}
 use Rattle.std.proofs.lemmas.Bool.{true≢false, false≢true, and_parts, and_from, or_cases, or_left, or_right, eqb-true, cases_Bool}
 use Rattle.std.proofs.lemmas.List.Elements.{Contains-append_left, Contains-append_right}
 use Rattle.aml_slice.specs.Controls.{Rest}
-use Rattle.snap_base.specs.declared.transactions.TxResult.{TxResult}
-use Rattle.snap_base.specs.declared.transactions.TxResult.TheVariants.{Value, Fail}
 use Rattle.book_part.specs.Listed.{live_tids}
 use Rattle.ready_listing.proofs.Lists.{first_of_all, in_flat_map}
 use Rattle.listing_facts.specs.Listing.{BookLists}
@@ -18,29 +16,22 @@ use Rattle.protocol.specs.OnBook.{lowered, tids_on}
 use Rattle.protocol.specs.Parts.{Status, Live, Doomed, Decided, Sealed, Joined, Act, Book, Machine}
 use Rattle.protocol.specs.Spread.{is_crossed, crossed_out, doomed_by_order}
 use Rattle.protocol.specs.Words.{is_among, holds, act_of, joined_of, is_value, is_live_status, is_doomed, is_decided, is_sealed, is_live_act}
+use Rattle.protocol_laws.proofs.first.Statuses.{value_some}
 use Rattle.protocol_theorems.specs.BookFits.{actors_at}
+use Rattle.protocol_records.proofs.recording.RecordsTold.{holds_weaker}
 use Rattle.protocol_ready.specs.Telling.{BookTells}
 use Rattle.protocol_ready.specs.Touched.{crossed_tids, changes_act, is_touched}
 use Rattle.protocol_ready.proofs.Listing.{Has, from_has, has_map, from_filter, any_of, held, found_in}
 use Rattle.ready_news.specs.InBook.{may_prepare, may_vouch, may_finish, may_decide, may_seal, has_begun, lets_prepare, lets_vote, lets_decide, lets_finish, is_meant, only, due_on, due_of, due_if, of_meant, of_live, sealing_of, vouching_of, synced_of, synced_if, of_begun, of_synced, by_book}
 use Rattle.ready_news.specs.New.{is_new}
 use Rattle.ready_news.proofs.Common.{Among}
-use Rattle.ready_news.proofs.GivenUp.{found_is}
+use Rattle.ready_news.proofs.GivenUp.{found_is, from_map}
 
 -- where the list of all that are live is enough
 abbrev pub Enough : Book → Type 0
 Enough b = (asked : Event → Bool) (es : List Event) → BookLists asked b es → BookTells asked b es
 
 -- ---- who does something has begun
-
-value_some : (r : Option TxResult) → is_value r ≡ true → is_some r ≡ true
-value_some None h = absurd (false≢true h)
-value_some (Some (Value v)) h = refl
-value_some (Some (Fail c)) h = absurd (false≢true h)
-
-pub there : {X : Type 0} (p q : X → Bool) (o : Option X) → ((x : X) → p x ≡ true → q x ≡ true) → holds p o ≡ true → holds q o ≡ true
-there p q None f h = absurd (false≢true h)
-there p q (Some x) f h = f x h
 
 -- what holds of one that has not begun
 pub record Unbegun (b : Book) : Type 0 where
@@ -53,12 +44,12 @@ module _ (b : Book) (u : Unbegun b) (t : ℕ) where
   begun_where p h f = elim (cases_Bool (has_begun b t)) [ inl y ↦ y | inr n ↦ absurd (true≢false (sym h ∙ f n)) ]
 
   pub decides_begun : may_decide b t ≡ true → has_begun b t ≡ true
-  decides_begun h = there (λ x. is_some x.result && is_live_status x.status) (λ x. is_some x.result || is_doomed x.status) (act_of t b.acts) (λ x q. or_left (is_some x.result) (is_doomed x.status) (and_parts (is_some x.result) (is_live_status x.status) q).0) h
+  decides_begun h = holds_weaker (λ x. is_some x.result && is_live_status x.status) (λ x. is_some x.result || is_doomed x.status) (act_of t b.acts) (λ x q. or_left (is_some x.result) (is_doomed x.status) (and_parts (is_some x.result) (is_live_status x.status) q).0) h
 
   pub prepares_begun : (a : ℕ) → may_prepare b t a ≡ true → has_begun b t ≡ true
   prepares_begun a h =
       let p = and_parts (holds (λ x. is_value x.result && not (is_doomed x.status)) (act_of t b.acts)) (holds (λ x. holds (λ p. not p.prepared) (joined_of a x)) (act_of t b.acts)) h in
-      there (λ x. is_value x.result && not (is_doomed x.status)) (λ x. is_some x.result || is_doomed x.status) (act_of t b.acts) (λ x q. or_left (is_some x.result) (is_doomed x.status) (value_some x.result (and_parts (is_value x.result) (not (is_doomed x.status)) q).0)) p.0
+      holds_weaker (λ x. is_value x.result && not (is_doomed x.status)) (λ x. is_some x.result || is_doomed x.status) (act_of t b.acts) (λ x q. or_left (is_some x.result) (is_doomed x.status) (value_some x.result (and_parts (is_value x.result) (not (is_doomed x.status)) q).0)) p.0
 
   pub seals_begun : may_seal b t ≡ true → has_begun b t ≡ true
   seals_begun h = begun_where (may_seal b t) h (u.decided t)
@@ -130,7 +121,7 @@ module _ (e : Event) (b : Book) (t : ℕ) where
 
   vouched_on : (a : ℕ) → may_vouch b t a ≡ true → holds (λ x. holds (λ p. p.prepared && not p.vouched) (joined_of a x)) (act_of t b.acts) ≡ true
   vouched_on a h =
-      there (λ x. is_live_act x && (not (is_doomed x.status) && holds (λ p. p.prepared && not p.vouched) (joined_of a x))) (λ x. holds (λ p. p.prepared && not p.vouched) (joined_of a x)) (act_of t b.acts)
+      holds_weaker (λ x. is_live_act x && (not (is_doomed x.status) && holds (λ p. p.prepared && not p.vouched) (joined_of a x))) (λ x. holds (λ p. p.prepared && not p.vouched) (joined_of a x)) (act_of t b.acts)
       (λ x q. (and_parts (not (is_doomed x.status)) (holds (λ p. p.prepared && not p.vouched) (joined_of a x)) (and_parts (is_live_act x) (not (is_doomed x.status) && holds (λ p. p.prepared && not p.vouched) (joined_of a x)) q).1).1) h
 
   vouch_of : (a : ℕ) → Lets (lets_vote e) e b t → may_vouch b t a ≡ true → Contains (of_meant e b t) (Vouch t a)
@@ -247,18 +238,13 @@ none_tells b asked es p v d s f = record {
 abbrev pub is_out : Act → Bool
 is_out x = is_doomed x.status
 
-made_of : {X Y : Type 0} (f : X → Y) (xs : List X) (y : Y) → Has (map f xs) y → (x : X) × (Has xs x × (f x ≡ y))
-made_of f [] y h = absurd h
-made_of f (x ∷ xs) y (inl e) = (x, (inl refl, e))
-made_of f (x ∷ xs) y (inr h) = let r = made_of f xs y h in (r.0, (inr r.1.0, r.1.1))
-
 is_out_then : (a : ℕ) (x : Act) → is_crossed x ≡ true → is_out (crossed_out a x) ≡ true
 is_out_then a x c = rw c refl
 
 crossed_is_out : (a t : ℕ) (acts now : List Act) → now ≡ doomed_by_order a acts → ((u : ℕ) → times u (map (λ x. x.tid) now) ≤ 1) → is_among t (crossed_tids acts) ≡ true → holds is_out (act_of t now) ≡ true
 crossed_is_out a t acts now is once h =
     let n = any_of (λ u. u == t) (crossed_tids acts) h in
-    let x = made_of (λ x. x.tid) (filter is_crossed acts) n.it n.has in
+    let x = from_map (λ x. x.tid) (filter is_crossed acts) n.it n.has in
     let c = from_filter is_crossed acts x.0 x.1.0 in
     let has : Has now (crossed_out a x.0) = subst (λ xs. Has xs (crossed_out a x.0)) (sym is) (has_map (crossed_out a) acts x.0 c.0) in
     let found : act_of x.0.tid now ≡ Some (crossed_out a x.0) = found_is now (crossed_out a x.0) (once x.0.tid) has in

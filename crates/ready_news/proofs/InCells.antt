@@ -3,7 +3,7 @@ use Rattle.std.specs.Prelude.{◌≡◌, ◌↔◌, nat_le, nat_lt, map, refl, �
 use Rattle.std.specs.List.{list_any, AllByRecursion}
 use Rattle.std.proofs.Common.{arith, sym, ap, subst, inl, inr, ◌∙◌}
 use Rattle.std.proofs.lemmas.Bool.{true≢false, ltb-false, and_parts, eqb-true, cases_Bool}
-use Rattle.std.proofs.lemmas.Option.{same_Some, slice_get_within}
+use Rattle.std.proofs.lemmas.Option.{same_Some, slice_get_within, slice_get_past}
 use Rattle.aml_slice.specs.Controls.{Rest}
 use Rattle.protocol.specs.Conditions.{IsAllowed, conditions, epoch, refusal}
 use Rattle.protocol.specs.Effects.{after, cell_at, no_cell, puts}
@@ -15,7 +15,7 @@ use Rattle.protocol.specs.OnCell.{outcome_taken}
 use Rattle.protocol.specs.OnDesk.{new_batch}
 use Rattle.protocol.specs.OnRing.{next_actors, next_pacts, numbered}
 use Rattle.protocol.specs.Parts.{Who, OfBatch, OfAct, Pact, Batch, Desk, Outcome, Cell, Machine}
-use Rattle.protocol.specs.Numbers.{NumbersDrawnOnce, flat, one_if, times}
+use Rattle.protocol.specs.Numbers.{NumbersDrawnOnce, flat, times}
 use Rattle.protocol.specs.Rests.{IsRest, IsTxIn}
 use Rattle.protocol.specs.Words.{batch_of, below, has_undone, holds, is_ended, is_going, names_pact, outcome_of, pact_result, result_among, who_on}
 use Rattle.protocol_laws.specs.FromDesk.{EntryOf, FromDesk}
@@ -23,6 +23,7 @@ use Rattle.protocol_laws.proofs.first.Times.{times_append}
 use Rattle.protocol_laws.proofs.machine.AllGood.{all_good}
 use Rattle.batch_table.specs.Listed.{actors_in}
 use Rattle.protocol_laws.specs.Ranges.{BatchInRange, IsDrawnTid, NumbersInRange}
+use Rattle.protocol_laws.proofs.first.Controls.{at_most_one}
 use Rattle.protocol_theorems.specs.Sizes.{SizesHold}
 use Rattle.protocol_ready.specs.Telling.{CellTells}
 use Rattle.protocol_ready.specs.Touched.{is_touched, is_abort, changes_entries, changes_done, changes_result}
@@ -171,12 +172,8 @@ close_result w t u a c = c.0
 from_run : (w : Fixed Rest) (t : Machine Rest) → HasRun w t → 1 ≤ length w.text.opening.states → FromDesk t
 from_run w t run some = subst FromDesk (sym run.is_reached) (all_good w (IsRest w.code (IsTxIn w.text)) run.finish run.events (record { text = run.text; actors = some; facts = run.facts }) run.run).good.from_desk
 
-one_few : (b : Bool) → one_if b ≤ 1
-one_few true = omega arith
-one_few false = omega arith
-
 few_of : (w : Fixed Rest) (t : Machine Rest) → NumbersDrawnOnce w t → (u : ℕ) → times u (flat (map (λ b. map (λ p. p.tid) b.pacts) t.desk.batches)) ≤ 1
-few_of w t n u = omega (arith, n.tids u, times_append u (flat (map (λ b. map (λ p. p.tid) b.pacts) t.desk.batches)) (map (λ x. x.tid) t.book.acts), one_few (nat_le w.text.opening.next_tid u && nat_lt u t.ring.next_tid))
+few_of w t n u = omega (arith, n.tids u, times_append u (flat (map (λ b. map (λ p. p.tid) b.pacts) t.desk.batches)) (map (λ x. x.tid) t.book.acts), at_most_one (nat_le w.text.opening.next_tid u && nat_lt u t.ring.next_tid))
 
 -- the cell that was put in
 got : (xs : List (Cell Rest)) (i j : ℕ) (y c : Cell Rest) → slice_get (slice_set xs j y) i ≡ Some c → j ≡ i → c ≡ y
@@ -324,13 +321,8 @@ all_cells_told w e s h es places whole behind ruled goes drawn ranges sizes enou
 
 -- ---- what the code finds
 
-none_past : {X : Type 0} (xs : List X) (i : ℕ) → length xs ≤ i → slice_get xs i ≡ None
-none_past [] i h = refl
-none_past (x ∷ xs) zero h = absurd (omega (arith, h))
-none_past (x ∷ xs) (suc i) h = none_past xs i (omega (arith, h))
-
 pub not_there : (h : Parts) (a : ℕ) → nat_lt a (length h.cells) ≡ false → slice_get h.cells a ≡ None
-not_there h a e = none_past h.cells a (ltb-false a (length h.cells) e)
+not_there h a e = slice_get_past h.cells a (ltb-false a (length h.cells) e)
 
 pub ended_none : (t : ℕ) (who : Who) (h : Parts) (d : Desk) → h.desk ≡ Some d → is_some (pact_result t d.batches) ≡ false → closes_behind t who h.desk h ≡ []
 ended_none t who h d is e = ap (λ o. closes_behind t who o h) is ∙ ap (λ b. if b then closes_of t who d h else []) e

@@ -1,17 +1,19 @@
 -- What is listed of batches tells what is new there.
-use Rattle.std.specs.Prelude.{◌≡◌, refl, ℕ, ◌%◌, ◌==◌, not, Bool, true, false, ◌&&◌, ◌||◌, if◌then◌else◌, Option, Some, None, List, [], ◌∷◌, ◌++◌, map, filter, slice_get, Contains}
+use Rattle.std.specs.Prelude.{◌≡◌, refl, ℕ, ◌%◌, ◌==◌, not, Bool, true, false, ◌&&◌, ◌||◌, if◌then◌else◌, Option, Some, None, List, [], ◌∷◌, ◌++◌, filter, slice_get, Contains}
 use Rattle.std.specs.List.{flat_map}
-use Rattle.std.proofs.Common.{sym, ap, subst, inl, inr, ◌∙◌}
-use Rattle.std.proofs.lemmas.Bool.{true≢false, and_parts, and_from, or_cases, eqb-true, eq-eqb}
+use Rattle.std.proofs.Common.{sym, ap, subst, ◌∙◌}
+use Rattle.std.proofs.lemmas.Bool.{true≢false, and_parts, and_from, eqb-true, eq-eqb}
 use Rattle.std.proofs.lemmas.List.Elements.{Contains-append_left, Contains-append_right}
 use Rattle.aml_slice.specs.Controls.{Rest}
 use Rattle.snap_base.specs.declared.ids.Bid.{Bid}
+use Rattle.snap_base.proofs.Booleans.{either_way, not_so}
 use Rattle.batch_table.specs.Askings.{is_next, awaits_settling}
 use Rattle.batch_table.specs.Listed.{actors_in, is_number, is_unnoted, unnoted_at, unnoted_in, unnoted_on}
 use Rattle.ready_listing.specs.Listed.{of_batch, of_declared, on_desk}
 use Rattle.ready_listing.proofs.Lists.{first_of_all, placed, in_flat_map}
 use Rattle.ready_listing.proofs.Told.{desk_lists}
 use Rattle.listing_facts.specs.Listing.{DeskLists}
+use Rattle.listing_facts.proofs.PartsEnough.{actor_has}
 use Rattle.protocol.specs.Effects.{after}
 use Rattle.protocol.specs.Events.{Event, Form, End, Sync, Note, Commit, Settle, Abort, Trim}
 use Rattle.protocol.specs.Fixed.{Fixed}
@@ -28,11 +30,6 @@ use Rattle.ready_news.proofs.Common.{Among}
 
 in_ends : (d : Desk) (k : ℕ) (f : Event) (n : ℕ) → slice_get (Commit k ∷ Settle k ∷ Abort k ∷ []) n ≡ Some f → Contains (of_batch d k) f
 in_ends d k f n e = Contains-append_left (Commit k ∷ Settle k ∷ Abort k ∷ []) (flat_map (of_declared k) (actors_in (batch_of k d.batches))) f (placed (Commit k ∷ Settle k ∷ Abort k ∷ []) n f e)
-
-actor_has : (k a : ℕ) (d : Desk) (b : Batch) (p : Declared) → batch_of k d.batches ≡ Some b → declared_of a b ≡ Some p → Contains (actors_in (batch_of k d.batches)) a
-actor_has k a d b p e f =
-    let r = found_in (λ p. p.actor == a) b.places p f in
-    subst (λ o. Contains (actors_in o) a) (sym e) (from_has (map (λ p. p.actor) b.places) a (subst (λ n. Has (map (λ p. p.actor) b.places) n) (eqb-true p.actor a r.1) (has_map (λ p. p.actor) b.places p r.0)))
 
 on_actor : (d : Desk) (k a : ℕ) (f : Event) (n : ℕ) → Contains (actors_in (batch_of k d.batches)) a → slice_get (of_declared k a) n ≡ Some f → Contains (of_batch d k) f
 on_actor d k a f n c e =
@@ -95,66 +92,60 @@ settles_have k (Some n) h = subst (λ i. Contains (Settle n.0 ∷ []) (Settle i)
 
 -- ---- after each event
 
-either : {X : Type 0} (a b : Bool) → (a || b) ≡ true → (a ≡ true → X) → (b ≡ true → X) → X
-either a b h f g = elim (or_cases a b h) [ inl x ↦ f x | inr y ↦ g y ]
-
-none : {X : Type 0} → false ≡ true → X
-none h = absurd (true≢false (sym h))
-
 module _ (w : Fixed Rest) (s : Machine Rest) (d : Desk) (next settling : Option Bid)
     (is_the_next : (k : ℕ) → is_next k d.batches ≡ is_number k next) (is_settling : (k : ℕ) → awaits_settling k d.batches ≡ is_number k settling) where
   all : (asked : Event → Bool) → DeskLists asked d (on_desk d)
   all asked = desk_lists asked (on_desk d) d (λ f c. c)
 
   at_batch : (j k : ℕ) (f : ℕ → Event) (x : Bool) → ((j == k) || x) ≡ true → (x ≡ true → ⊥) → Contains (of_batch d k) (f k) → Contains (of_batch d j) (f k)
-  at_batch j k f x h n c = either (j == k) x h (λ q. subst (λ i. Contains (of_batch d i) (f k)) (sym (eqb-true j k q)) c) (λ q. absurd (n q))
+  at_batch j k f x h n c = either_way (j == k) x h (λ q. subst (λ i. Contains (of_batch d i) (f k)) (sym (eqb-true j k q)) c) (λ q. absurd (n q))
 
   module _ (enough : (asked : Event → Bool) → DeskLists asked d (on_desk d) → DeskTells asked d (on_desk d)) where
     tells_all : (asked : Event → Bool) → DeskTells asked d (on_desk d)
     tells_all asked = enough asked (all asked)
 
     note_listed : (e : Event) (k a : ℕ) → is_touched w e s (Note k a) ≡ true → IsToNote k a d → Contains (by_desk w.text.logs next settling d e) (Note k a)
-    note_listed (Form j) k a h g = Contains-append_left (of_batch d j) (next_ends next) (Note k a) (at_batch j k (λ i. Note i a) false h (λ q. none q) (note_of k a d g))
-    note_listed (Commit j) k a h g = at_batch j k (λ i. Note i a) false h (λ q. none q) (note_of k a d g)
-    note_listed (Settle j) k a h g = Contains-append_left (of_batch d j) (next_ends next) (Note k a) (at_batch j k (λ i. Note i a) false h (λ q. none q) (note_of k a d g))
-    note_listed (Note j b) k a h g = either ((j == k) && (b == a)) false h (λ q. let p = and_parts (j == k) (b == a) q in subst (λ i. Contains (Note j b ∷ Commit j ∷ []) (Note i a)) (eqb-true j k p.0) (subst (λ i. Contains (Note j b ∷ Commit j ∷ []) (Note j i)) (eqb-true b a p.1) (first_of_all (Commit j ∷ []) (Note j b)))) (λ q. none q)
+    note_listed (Form j) k a h g = Contains-append_left (of_batch d j) (next_ends next) (Note k a) (at_batch j k (λ i. Note i a) false h (λ q. not_so q) (note_of k a d g))
+    note_listed (Commit j) k a h g = at_batch j k (λ i. Note i a) false h (λ q. not_so q) (note_of k a d g)
+    note_listed (Settle j) k a h g = Contains-append_left (of_batch d j) (next_ends next) (Note k a) (at_batch j k (λ i. Note i a) false h (λ q. not_so q) (note_of k a d g))
+    note_listed (Note j b) k a h g = either_way ((j == k) && (b == a)) false h (λ q. let p = and_parts (j == k) (b == a) q in subst (λ i. Contains (Note j b ∷ Commit j ∷ []) (Note i a)) (eqb-true j k p.0) (subst (λ i. Contains (Note j b ∷ Commit j ∷ []) (Note j i)) (eqb-true b a p.1) (first_of_all (Commit j ∷ []) (Note j b)))) (λ q. not_so q)
     note_listed (Sync l) k a h g = Contains-append_left (flat_map of_unnoted (unnoted_on w.text.logs l d)) (next_ends next ++ settles_of settling) (Note k a) (unnoted_has w.text.logs l k a d g (and_parts (l == a % w.text.logs) _ h).0)
     note_listed (Abort j) k a h g = (tells_all (λ f. true)).note k a refl g
-    note_listed _ k a h g = none h
+    note_listed _ k a h g = not_so h
 
     trim_listed : (e : Event) (k a : ℕ) → is_touched w e s (Trim k a) ≡ true → IsToTrim k a d → Contains (by_desk w.text.logs next settling d e) (Trim k a)
-    trim_listed (Form j) k a h g = Contains-append_left (of_batch d j) (next_ends next) (Trim k a) (at_batch j k (λ i. Trim i a) false h (λ q. none q) (trim_of k a d g))
-    trim_listed (Commit j) k a h g = at_batch j k (λ i. Trim i a) false h (λ q. none q) (trim_of k a d g)
-    trim_listed (Settle j) k a h g = Contains-append_left (of_batch d j) (next_ends next) (Trim k a) (at_batch j k (λ i. Trim i a) false h (λ q. none q) (trim_of k a d g))
+    trim_listed (Form j) k a h g = Contains-append_left (of_batch d j) (next_ends next) (Trim k a) (at_batch j k (λ i. Trim i a) false h (λ q. not_so q) (trim_of k a d g))
+    trim_listed (Commit j) k a h g = at_batch j k (λ i. Trim i a) false h (λ q. not_so q) (trim_of k a d g)
+    trim_listed (Settle j) k a h g = Contains-append_left (of_batch d j) (next_ends next) (Trim k a) (at_batch j k (λ i. Trim i a) false h (λ q. not_so q) (trim_of k a d g))
     trim_listed (Trim j b) k a h g = let p = and_parts (j == k) (b == a) h in subst (λ i. Contains (Trim j b ∷ []) (Trim i a)) (eqb-true j k p.0) (subst (λ i. Contains (Trim j b ∷ []) (Trim j i)) (eqb-true b a p.1) (first_of_all [] (Trim j b)))
     trim_listed (Abort j) k a h g = (tells_all (λ f. true)).trim k a refl g
-    trim_listed _ k a h g = none h
+    trim_listed _ k a h g = not_so h
 
     settle_listed : (e : Event) (k : ℕ) → is_touched w e s (Settle k) ≡ true → awaits_settling k d.batches ≡ true → Contains (by_desk w.text.logs next settling d e) (Settle k)
-    settle_listed (Form j) k h g = Contains-append_left (of_batch d j) (next_ends next) (Settle k) (at_batch j k Settle false h (λ q. none q) (in_ends d k (Settle k) 1 refl))
-    settle_listed (Commit j) k h g = at_batch j k Settle false h (λ q. none q) (in_ends d k (Settle k) 1 refl)
-    settle_listed (Settle j) k h g = Contains-append_left (of_batch d j) (next_ends next) (Settle k) (at_batch j k Settle false h (λ q. none q) (in_ends d k (Settle k) 1 refl))
+    settle_listed (Form j) k h g = Contains-append_left (of_batch d j) (next_ends next) (Settle k) (at_batch j k Settle false h (λ q. not_so q) (in_ends d k (Settle k) 1 refl))
+    settle_listed (Commit j) k h g = at_batch j k Settle false h (λ q. not_so q) (in_ends d k (Settle k) 1 refl)
+    settle_listed (Settle j) k h g = Contains-append_left (of_batch d j) (next_ends next) (Settle k) (at_batch j k Settle false h (λ q. not_so q) (in_ends d k (Settle k) 1 refl))
     settle_listed (Sync l) k h g = Contains-append_right (flat_map of_unnoted (unnoted_on w.text.logs l d)) (next_ends next ++ settles_of settling) (Settle k) (Contains-append_right (next_ends next) (settles_of settling) (Settle k) (settles_have k settling (sym (is_settling k) ∙ g)))
     settle_listed (Abort j) k h g = (tells_all (λ f. true)).settle k refl g
-    settle_listed _ k h g = none h
+    settle_listed _ k h g = not_so h
 
     commit_listed : (e : Event) (k : ℕ) → is_touched w e s (Commit k) ≡ true → is_next k d.batches ≡ true → Contains (by_desk w.text.logs next settling d e) (Commit k)
     commit_listed (Form j) k h g = Contains-append_right (of_batch d j) (next_ends next) (Commit k) (ends_have k next (sym (is_the_next k) ∙ g)).0
     commit_listed (Settle j) k h g = Contains-append_right (of_batch d j) (next_ends next) (Commit k) (ends_have k next (sym (is_the_next k) ∙ g)).0
     commit_listed (End t b) k h g = (ends_have k next (sym (is_the_next k) ∙ g)).0
     commit_listed (Sync l) k h g = Contains-append_right (flat_map of_unnoted (unnoted_on w.text.logs l d)) (next_ends next ++ settles_of settling) (Commit k) (Contains-append_left (next_ends next) (settles_of settling) (Commit k) (ends_have k next (sym (is_the_next k) ∙ g)).0)
-    commit_listed (Commit j) k h g = at_batch j k Commit false h (λ q. none q) (in_ends d k (Commit k) 0 refl)
-    commit_listed (Note j b) k h g = either (j == k) false h (λ q. subst (λ i. Contains (Note j b ∷ Commit j ∷ []) (Commit i)) (eqb-true j k q) (placed (Note j b ∷ Commit j ∷ []) 1 (Commit j) refl)) (λ q. none q)
+    commit_listed (Commit j) k h g = at_batch j k Commit false h (λ q. not_so q) (in_ends d k (Commit k) 0 refl)
+    commit_listed (Note j b) k h g = either_way (j == k) false h (λ q. subst (λ i. Contains (Note j b ∷ Commit j ∷ []) (Commit i)) (eqb-true j k q) (placed (Note j b ∷ Commit j ∷ []) 1 (Commit j) refl)) (λ q. not_so q)
     commit_listed (Abort j) k h g = (tells_all (λ f. true)).commit k refl g
-    commit_listed _ k h g = none h
+    commit_listed _ k h g = not_so h
 
     abort_listed : (e : Event) (k : ℕ) → is_touched w e s (Abort k) ≡ true → is_next k d.batches ≡ true → Contains (by_desk w.text.logs next settling d e) (Abort k)
     abort_listed (Form j) k h g = Contains-append_right (of_batch d j) (next_ends next) (Abort k) (ends_have k next (sym (is_the_next k) ∙ g)).1
     abort_listed (Settle j) k h g = Contains-append_right (of_batch d j) (next_ends next) (Abort k) (ends_have k next (sym (is_the_next k) ∙ g)).1
     abort_listed (End t b) k h g = (ends_have k next (sym (is_the_next k) ∙ g)).1
-    abort_listed (Commit j) k h g = at_batch j k Abort false h (λ q. none q) (in_ends d k (Abort k) 2 refl)
+    abort_listed (Commit j) k h g = at_batch j k Abort false h (λ q. not_so q) (in_ends d k (Abort k) 2 refl)
     abort_listed (Abort j) k h g = (tells_all (λ f. true)).abort k refl g
-    abort_listed _ k h g = none h
+    abort_listed _ k h g = not_so h
 
     -- all that is listed is among those
     pub desk_told : (e : Event) (es : List Event) → (after w e s).desk ≡ d → Among (by_desk w.text.logs next settling d e) es → DeskTells (is_new w e s) (after w e s).desk es

@@ -38,9 +38,6 @@ find_gone p (x ∷ xs) = by (p x) refl (find_gone p xs)
 pub nowhere : {X : Type 0} (p : X → Bool) (o : Option X) → o ≡ None → holds p o ≡ true → ⊥
 nowhere p o e h = true≢false (sym h ∙ ap (holds p) e)
 
-pub nothing : {X : Type 0} (o : Option X) → o ≡ None → is_some o ≡ true → ⊥
-nothing o e h = true≢false (sym h ∙ ap is_some e)
-
 -- ---- what is under way is among what is listed of it
 
 sub_there : (k a : ℕ) (subs : List SubBatch) → is_some (sub_of k a subs) ≡ true → Has (sub_places subs) (k, a)

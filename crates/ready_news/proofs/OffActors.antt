@@ -2,7 +2,8 @@
 use Rattle.std.specs.Prelude.{◌≡◌, refl, ℕ, ◌==◌, max, not, Bool, true, false, ◌&&◌, ◌||◌, if◌then◌else◌, Option, Some, None, List, [], ◌∷◌, ◌++◌, map, filter}
 use Rattle.std.specs.List.{list_any, AllByRecursion}
 use Rattle.std.proofs.Common.{arith, sym, ap, subst, ◌∙◌}
-use Rattle.std.proofs.lemmas.Bool.{eqb-true, not-true, true≢false, false≢true}
+use Rattle.std.proofs.lemmas.Bool.{eqb-true, not-true, true≢false}
+use Rattle.snap_base.proofs.Booleans.{not_so}
 use Rattle.protocol.specs.Conditions.{IsAllowed, conditions}
 use Rattle.protocol.specs.Effects.{after, cell_at}
 use Rattle.protocol.specs.Events.{Event, Admit, Arrive, Ask, End, Abort, Prepare, Vouch, Decide, Seal, Finish}
@@ -15,9 +16,6 @@ use Rattle.protocol.specs.Spread.{raised, carried, carries_to, crossed_out, stan
 use Rattle.protocol.specs.Verdicts.{died}
 use Rattle.protocol.specs.Words.{act_of, greatest, has_act, holds, is_doomed, is_empty, is_ordered, outcome_of}
 use Rattle.ready_news.proofs.Asking.{behind_at, group_at, older_at}
-
-no : {X : Type 0} → false ≡ true → X
-no h = absurd (false≢true h)
 
 abbrev has_joined : Act → Bool
 has_joined x = not (is_empty x.places)
@@ -120,7 +118,7 @@ from_more t y n (x ∷ xs) e P k own = by (x.tid == t) e k (λ q g. from_more t 
     by false q g r = r q g
 
 placed_more : (t : ℕ) (n : Act) (xs : List Act) → Placed xs t → Placed (xs ++ n ∷ []) t
-placed_more t n [] h = no h
+placed_more t n [] h = not_so h
 placed_more t n (x ∷ xs) h = by (x.tid == t) h (placed_more t n xs)
   where
     by : (c : Bool) → holds has_joined (if c then Some x else act_of t xs) ≡ true → (Placed xs t → Placed (xs ++ n ∷ []) t) → holds has_joined (if c then Some x else act_of t (xs ++ n ∷ [])) ≡ true
@@ -151,7 +149,7 @@ stands_nowhere t u [] h = refl
 stands_nowhere t u (p ∷ ps) h = by (p.behind == t) (p.ahead == u) h (stands_nowhere t u ps)
   where
     by : (c d : Bool) → (c || list_any (λ p. p.behind == t) ps) ≡ false → (list_any (λ p. p.behind == t) ps ≡ false → stands_behind ps t u ≡ false) → ((c && d) || stands_behind ps t u) ≡ false
-    by true d g k = no (sym g)
+    by true d g k = not_so (sym g)
     by false d g k = k g
 
 none_carries : (x : Act) (ps : List Pair) (others : List Act) → list_any (λ p. p.behind == x.tid) ps ≡ false → carried ps x others ≡ 0
@@ -207,7 +205,7 @@ rises n acts ps h = record {
 -- ---- an ACT that asks
 
 joined_placed : (t a m : ℕ) (acts : List Act) → holds (λ x. not (is_doomed x.status)) (act_of t acts) ≡ true → Placed (book.changed_act t (book.joins a m) acts) t
-joined_placed t a m [] h = no h
+joined_placed t a m [] h = not_so h
 joined_placed t a m (x ∷ xs) h = by (x.tid == t) refl h (joined_placed t a m xs)
   where
     by : (c : Bool) → (x.tid == t) ≡ c → holds (λ x. not (is_doomed x.status)) (if c then Some x else act_of t xs) ≡ true

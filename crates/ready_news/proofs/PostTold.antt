@@ -2,7 +2,7 @@
 use Rattle.std.specs.Prelude.{◌≡◌, ◌↔◌, refl, ℕ, zero, suc, ◌≤◌, ◌==◌, not, Bool, true, false, ◌&&◌, ◌||◌, if◌then◌else◌, is_some, Option, Some, None, List, [], ◌∷◌, ◌++◌, map, filter, slice_get, slice_set, slice_index_or, Contains}
 use Rattle.std.specs.List.{list_any, AllByRecursion}
 use Rattle.std.proofs.Common.{sym, ap, subst, inl, inr, ◌∙◌}
-use Rattle.std.proofs.lemmas.Bool.{true≢false, and_parts, eqb-true, eq-eqb, or_cases, cases_Bool}
+use Rattle.std.proofs.lemmas.Bool.{true≢false, and_parts, eqb-true, eq-eqb, cases_Bool}
 use Rattle.std.proofs.lemmas.List.Elements.{Contains-append_left, Contains-append_right}
 use Rattle.aml_slice.specs.Controls.{Rest}
 use Rattle.protocol.specs.Conditions.{IsAllowed, conditions, epoch, is_given_up, refusal}
@@ -17,6 +17,8 @@ use Rattle.protocol.specs.Rivals.{Lock}
 use Rattle.protocol.specs.Spread.{raised}
 use Rattle.protocol.specs.Verdicts.{died}
 use Rattle.snap_base.specs.declared.verdicts.Verdict.{Verdict}
+use Rattle.snap_base.proofs.Options.{is_no_none}
+use Rattle.snap_base.proofs.Booleans.{either_way}
 use Rattle.protocol.specs.Words.{act_of, control_of, has_control_to, has_entry, holds, is_act_entry, is_batch_entry, is_entry_of, is_doomed, is_live_status, lock_of, sub_of, without_control, without_sub, has_act}
 use Rattle.protocol_ready.specs.Telling.{PostTells}
 use Rattle.protocol_ready.specs.Touched.{is_touched, changes_who, changes_doom}
@@ -31,7 +33,7 @@ use Rattle.ready_news.proofs.Common.{Among, new_is_touched, new_is_allowed, new_
 use Rattle.ready_news.proofs.AfterRuns.{Holding, IsOwn, on_schedule}
 use Rattle.ready_news.proofs.Asking.{behind_at, group_at, older_at}
 use Rattle.ready_news.proofs.GivenUp.{Known, arrival_fallen, ask_fallen}
-use Rattle.ready_news.proofs.InPost.{left_or, find_gone, nowhere, nothing, arrival_in, coming_in, in_control, drop_in_control, all_subs, all_controls, all_drops, holds_back, crossed_back, raised_back, changed_back}
+use Rattle.ready_news.proofs.InPost.{left_or, find_gone, nowhere, arrival_in, coming_in, in_control, drop_in_control, all_subs, all_controls, all_drops, holds_back, crossed_back, raised_back, changed_back}
 use Rattle.ready_news.proofs.NewDrops.{IsGivenUp, all_are, crossed_found, fallen_dropped, joined_doom, lowered_doom}
 
 -- ---- what was taken is gone, and the rest is there
@@ -206,9 +208,6 @@ asks_of w e s ruled = record {
   refused = λ f q a. true≢false (sym (eq-eqb (refusal w f s) 0 ((ruled w f s).1 a)) ∙ new_was_refused w e s f q);
 }
 
-either_way : {X : Type 0} (b c : Bool) → (b || c) ≡ true → (b ≡ true → X) → (c ≡ true → X) → X
-either_way b c h f g = elim (or_cases b c h) [ inl x ↦ f x | inr y ↦ g y ]
-
 -- one or nothing
 pub first_only : (b : Bool) → (b || false) ≡ true → b ≡ true
 first_only b h = left_or b false h no
@@ -314,7 +313,7 @@ module _ (asked : Event → Bool) (w : Fixed Rest) (s : Machine Rest) (before : 
       let p = (after w (Arrive j b) s).post in
       record {
         arrive = λ k a q h. more (Arrive k a) (Contains-append_left (arrivals_to b p) (comings_to b p) (Arrive k a) (arrival_in p k a b h (either_way ((j == k) && (b == a)) (b == a) (g.touched (Arrive k a) q) (λ x. (and_parts (j == k) (b == a) x).1) (λ x. x))));
-        drop_sub = λ k a q h. absurd (nothing (sub_of k a p.subs) (gone_sub j b k a s.post.subs (g.touched (DropSub k a) q)) h);
+        drop_sub = λ k a q h. absurd (is_no_none (sub_of k a p.subs) (gone_sub j b k a s.post.subs (g.touched (DropSub k a) q)) h);
         ask = λ t a q h. absurd (g.refused (Ask t a) q (arrive_asks w j b s t a (g.allowed (Ask t a) q)));
         take = λ t a q h. more (Take t a) (Contains-append_right (arrivals_to b p) (comings_to b p) (Take t a) (coming_in p t a b (Take t a) h (g.touched (Take t a) q) (inr (inl refl))));
         drop_control = λ t q h. drops (DropControl t) (arrival_dropped asked w s j b t before later g q);
@@ -334,7 +333,7 @@ module _ (asked : Event → Bool) (w : Fixed Rest) (s : Machine Rest) (before : 
           | inr e ↦ absurd (g.refused (Take t a) q (ask_takes w u b s t a e (g.allowed (Take t a) q)))
         ];
         drop_control = λ t q h. elim (cases_Bool (u == t)) [
-          | inl e ↦ absurd (nothing (control_of t p.controls) (gone t e) h)
+          | inl e ↦ absurd (is_no_none (control_of t p.controls) (gone t e) h)
           | inr e ↦ drops (DropControl t) (ask_dropped asked w s u b t before later g q e)
         ];
       }
@@ -365,7 +364,7 @@ module _ (asked : Event → Bool) (w : Fixed Rest) (s : Machine Rest) (before : 
         take = λ t a q h. absurd (nowhere (λ m. m.to == a) (control_of t p.controls) (gone t (first_only (u == t) (g.touched (Take t a) q))) h);
         drop_control = λ t q h.
             either_way (u == t) _ (g.touched (DropControl t) q)
-            (λ x. absurd (nothing (control_of t p.controls) (gone t x) h))
+            (λ x. absurd (is_no_none (control_of t p.controls) (gone t x) h))
             (λ x. absurd (not_who (Take u b) s (control_of t s.post.controls) (λ t. refl) x));
       }
 
@@ -381,7 +380,7 @@ module _ (asked : Event → Bool) (w : Fixed Rest) (s : Machine Rest) (before : 
         take = λ t a q h. absurd (nowhere (λ m. m.to == a) (control_of t p.controls) (gone t (first_only (u == t) (g.touched (Take t a) q))) h);
         drop_control = λ t q h.
             either_way (u == t) _ (g.touched (DropControl t) q)
-            (λ x. absurd (nothing (control_of t p.controls) (gone t x) h))
+            (λ x. absurd (is_no_none (control_of t p.controls) (gone t x) h))
             (λ x. absurd (not_who (DropControl u) s (control_of t s.post.controls) (λ t. refl) x));
       }
 
@@ -390,8 +389,8 @@ module _ (asked : Event → Bool) (w : Fixed Rest) (s : Machine Rest) (before : 
   left_told j b later g more drops =
       let p = (after w (DropSub j b) s).post in
       record {
-        arrive = λ k a q h. absurd (nothing (sub_of k a p.subs) (gone_sub j b k a s.post.subs (first_only ((j == k) && (b == a)) (g.touched (Arrive k a) q))) h);
-        drop_sub = λ k a q h. absurd (nothing (sub_of k a p.subs) (gone_sub j b k a s.post.subs (g.touched (DropSub k a) q)) h);
+        arrive = λ k a q h. absurd (is_no_none (sub_of k a p.subs) (gone_sub j b k a s.post.subs (first_only ((j == k) && (b == a)) (g.touched (Arrive k a) q))) h);
+        drop_sub = λ k a q h. absurd (is_no_none (sub_of k a p.subs) (gone_sub j b k a s.post.subs (g.touched (DropSub k a) q)) h);
         ask = λ t a q h. no (g.touched (Ask t a) q);
         take = λ t a q h. no (g.touched (Take t a) q);
         drop_control = λ t q h. absurd (not_who (DropSub j b) s (control_of t s.post.controls) (λ t. refl) (g.touched (DropControl t) q));

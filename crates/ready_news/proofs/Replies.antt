@@ -2,23 +2,21 @@
 use Rattle.std.specs.Prelude.{◌≡◌, refl, ℕ, suc, ◌+◌, ◌<◌, ◌≤◌, ◌==◌, Bool, true, false, ◌&&◌, ◌||◌, if◌then◌else◌, is_some, Option, Some, None, List, [], ◌∷◌, ◌++◌, length, map, filter, find, Contains}
 use Rattle.std.specs.List.{list_any, AllByRecursion}
 use Rattle.std.proofs.Common.{arith, sym, ap, subst, inl, inr}
-use Rattle.std.proofs.lemmas.Bool.{eqb-true, and_parts, or_cases, false≢true}
+use Rattle.std.proofs.lemmas.Bool.{eqb-true, and_parts, or_cases}
 use Rattle.snap_base.specs.declared.transactions.TxResult.{TxResult}
-use Rattle.snap_base.specs.declared.transactions.TxResult.TheVariants.{Value, Fail}
 use Rattle.snap_base.specs.declared.verdicts.Place.{Place}
 use Rattle.snap_base.specs.declared.verdicts.Verdict.{Verdict}
+use Rattle.snap_base.proofs.Booleans.{not_so}
 use Rattle.protocol.specs.Parts.{Act, Cascade, Pact, Stage, Formed, Committing, Settled, Batch}
 use Rattle.protocol.specs.Numbers.{from, times}
 use Rattle.protocol.specs.OnDesk as desk
 use Rattle.protocol.specs.OnBook as book
 use Rattle.protocol.specs.Words.{covers, act_of, batch_of, is_settled}
-use Rattle.protocol.specs.Verdicts.{or_else, ended_at, settled_verdict, pact_place, pact_verdict, act_verdict, verdict_in_batch, verdict_of_pact, verdict_of_act}
+use Rattle.protocol.specs.Verdicts.{or_else, settled_verdict, pact_place, pact_verdict, act_verdict, verdict_in_batch, verdict_of_pact, verdict_of_act}
+use Rattle.protocol_theorems.proofs.quiet.QuietEnd.{has_ended}
 use Rattle.batch_table.specs.Listed.{txs_at}
 use Rattle.order_book.specs.Asked.{tx_of}
 use Rattle.protocol_ready.proofs.Listing.{Has, from_has, has_map, any_of}
-
-pub no : {X : Type 0} → false ≡ true → X
-no h = absurd (false≢true h)
 
 -- ---- two that may tell
 
@@ -29,7 +27,7 @@ either_some (Some v) a b f h = refl
 pub first_some : (p q a : Option Verdict) → (is_some p ≡ true → is_some q ≡ true) → is_some (or_else p a) ≡ true → is_some (or_else q a) ≡ true
 first_some None None a f h = h
 first_some None (Some v) a f h = refl
-first_some (Some u) None a f h = no (f refl)
+first_some (Some u) None a f h = not_so (f refl)
 first_some (Some u) (Some v) a f h = refl
 
 -- ---- an ACT that is new has no verdict
@@ -57,10 +55,10 @@ more_times false x xs = omega arith
 
 one_time : (b : Bool) (x : ℕ) (xs : List ℕ) → b ≡ true → length (if b then x ∷ xs else xs) ≡ suc (length xs)
 one_time true x xs e = refl
-one_time false x xs e = no e
+one_time false x xs e = not_so e
 
 named_times : (t n : ℕ) (acts : List Act) → list_any (λ x. (x.tid == t) && (x.tx == n)) acts ≡ true → 1 ≤ times t (map (λ x. x.tid) acts)
-named_times t n [] h = no h
+named_times t n [] h = not_so h
 named_times t n (x ∷ xs) h =
     let rest = filter (λ y. y == t) (map (λ x. x.tid) xs) in
     elim (or_cases ((x.tid == t) && (x.tx == n)) (list_any (λ x. (x.tid == t) && (x.tx == n)) xs) h) [
@@ -69,7 +67,7 @@ named_times t n (x ∷ xs) h =
     ]
 
 pub named_is : (t n : ℕ) (acts : List Act) → times t (map (λ x. x.tid) acts) ≤ 1 → list_any (λ x. (x.tid == t) && (x.tx == n)) acts ≡ true → tx_of (act_of t acts) ≡ Some n
-named_is t n [] once h = no h
+named_is t n [] once h = not_so h
 named_is t n (x ∷ xs) once h = by (x.tid == t) refl once h (named_is t n xs)
   where
     rest : List ℕ
@@ -92,8 +90,8 @@ tx_changed t u f (x ∷ xs) i j = by (x.tid == u) (tx_changed t u f xs i j)
       where
         on : (c d : Bool) → c ≡ d → tx_of (if c then Some y else act_of t (book.changed_act u f xs)) ≡ tx_of (if d then Some x else act_of t xs)
         on true true e = ap Some q
-        on true false e = no (sym e)
-        on false true e = no e
+        on true false e = not_so (sym e)
+        on false true e = not_so e
         on false false e = k
 
     by : (c : Bool) → tx_of (act_of t (book.changed_act u f xs)) ≡ tx_of (act_of t xs) → tx_of (act_of t (book.change_if c f x ∷ book.changed_act u f xs)) ≡ tx_of (act_of t (x ∷ xs))
@@ -103,7 +101,7 @@ tx_changed t u f (x ∷ xs) i j = by (x.tid == u) (tx_changed t u f xs i j)
 -- ---- the batch of a number has this transaction
 
 none_above : (k low n : ℕ) (bs : List Batch) → map (λ b. b.bid) bs ≡ from low (length bs) → k < low → list_any (λ b. (b.bid == k) && list_any (λ p. p.tx == n) b.pacts) bs ≡ true → ⊥
-none_above k low n [] e l h = no h
+none_above k low n [] e l h = not_so h
 none_above k low n (b ∷ bs) e l h =
     let head : b.bid ≡ low = cc e in
     let tail : map (λ b. b.bid) bs ≡ from (low + 1) (length bs) = cc e in
@@ -116,7 +114,7 @@ tx_has : (n : ℕ) (ps : List Pact) → list_any (λ p. p.tx == n) ps ≡ true �
 tx_has n ps h = let p = any_of (λ p. p.tx == n) ps h in from_has (map (λ p. p.tx) ps) n (subst (λ m. Has (map (λ p. p.tx) ps) m) (eqb-true p.it.tx n p.does) (has_map (λ p. p.tx) ps p.it p.has))
 
 pub batch_has : (k low n : ℕ) (bs : List Batch) → map (λ b. b.bid) bs ≡ from low (length bs) → list_any (λ b. (b.bid == k) && list_any (λ p. p.tx == n) b.pacts) bs ≡ true → Contains (txs_at (batch_of k bs)) n
-batch_has k low n [] e h = no h
+batch_has k low n [] e h = not_so h
 batch_has k low n (b ∷ bs) e h = by (b.bid == k) refl h (batch_has k (low + 1) n bs tail)
   where
     head : b.bid ≡ low
@@ -141,19 +139,14 @@ txs_settled k st (b ∷ bs) = by (b.bid == k) refl (txs_settled k st bs)
 
 -- ---- a PACT's result tells nothing where its batch has not settled, and nothing new where it has
 
-ends : (p : Place) (r : Option TxResult) → is_some r ≡ true → is_some (ended_at p r) ≡ true
-ends p None h = no h
-ends p (Some (Value v)) h = refl
-ends p (Some (Fail c)) h = refl
-
 settled_same : (st : Stage) (p : Place) (r q : Option TxResult) → (is_settled st ≡ true → is_some r ≡ true) → is_some (settled_verdict st p q) ≡ true → is_some (settled_verdict st p r) ≡ true
 settled_same Formed p r q f h = h
 settled_same Committing p r q f h = h
-settled_same Settled p r q f h = ends p r (f refl)
+settled_same Settled p r q f h = has_ended p r (f refl)
 
 in_batch_same : (cs : List Cascade) (n t : ℕ) (r : TxResult) (b c : Batch) (ps : List Pact) → b.bid ≡ c.bid → b.stage ≡ c.stage → (is_settled b.stage ≡ true → AllByRecursion (λ p. is_some p.result ≡ true) ps)
     → is_some (verdict_in_batch cs n c (map (desk.with_result t r) ps)) ≡ true → is_some (verdict_in_batch cs n b ps) ≡ true
-in_batch_same cs n t r b c [] i j a h = no h
+in_batch_same cs n t r b c [] i j a h = not_so h
 in_batch_same cs n t r b c (p ∷ ps) i j a h = by (p.tx == n) h (in_batch_same cs n t r b c ps i j (λ s. (a s).1))
   where
     told : (o : Option Cascade) → is_some (pact_verdict o c (desk.with_result t r p)) ≡ true → is_some (pact_verdict o b p) ≡ true
@@ -167,7 +160,7 @@ in_batch_same cs n t r b c (p ∷ ps) i j a h = by (p.tx == n) h (in_batch_same 
     by false g k = k g
 
 same_batch : (cs : List Cascade) (n : ℕ) (b c : Batch) (ps : List Pact) → b.bid ≡ c.bid → b.stage ≡ c.stage → is_some (verdict_in_batch cs n c ps) ≡ true → is_some (verdict_in_batch cs n b ps) ≡ true
-same_batch cs n b c [] i j h = no h
+same_batch cs n b c [] i j h = not_so h
 same_batch cs n b c (p ∷ ps) i j h = by (p.tx == n) h (same_batch cs n b c ps i j)
   where
     told : (o : Option Cascade) → is_some (pact_verdict o c p) ≡ true → is_some (pact_verdict o b p) ≡ true
@@ -187,7 +180,7 @@ with_results_same cs n t r b a h = by b.aborted h
 
 pub pacts_same : (cs : List Cascade) (n t : ℕ) (r : TxResult) (bs : List Batch) → AllByRecursion (λ b. is_settled b.stage ≡ true → AllByRecursion (λ p. is_some p.result ≡ true) b.pacts) bs
     → is_some (verdict_of_pact cs n (map (desk.with_results t r) bs)) ≡ true → is_some (verdict_of_pact cs n bs) ≡ true
-pacts_same cs n t r [] a h = no h
+pacts_same cs n t r [] a h = not_so h
 pacts_same cs n t r (b ∷ bs) a h =
     let head = verdict_in_batch cs n b b.pacts in
     let rest = verdict_of_pact cs n bs in
@@ -209,7 +202,7 @@ acts_same n t f (x ∷ xs) j none h = by (x.tid == t) none h (acts_same n t f xs
     other : (d : Bool) → (d || list_any (λ x. (x.tid == t) && (x.tx == n)) xs) ≡ false → is_some (if d then act_verdict (f x).status (f x).m (f x).result else verdict_of_act n (book.changed_act t f xs)) ≡ true
         → (list_any (λ x. (x.tid == t) && (x.tx == n)) xs ≡ false → is_some (verdict_of_act n (book.changed_act t f xs)) ≡ true → is_some (verdict_of_act n xs) ≡ true)
         → is_some (if d then act_verdict x.status x.m x.result else verdict_of_act n xs) ≡ true
-    other true e g k = no (sym e)
+    other true e g k = not_so (sym e)
     other false e g k = k e g
 
     by : (c : Bool) → ((c && (x.tx == n)) || list_any (λ x. (x.tid == t) && (x.tx == n)) xs) ≡ false → is_some (verdict_of_act n (book.change_if c f x ∷ book.changed_act t f xs)) ≡ true

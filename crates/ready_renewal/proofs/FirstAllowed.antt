@@ -7,9 +7,9 @@ use Rattle.protocol.specs.Events.{Event}
 use Rattle.protocol.specs.Fixed.{Fixed}
 use Rattle.protocol.specs.Parts.{Machine}
 use Rattle.protocol.specs.Schedule.{Ascends, Rank, is_rank_below, rank}
+use Rattle.protocol_laws.proofs.first.Ordered.{filtered}
 use Rattle.protocol_ready.specs.Ready.{without}
 use Rattle.protocol_ready.proofs.Listing.{from_filter, from_has, has_filter, to_has}
-use Rattle.protocol_ready.proofs.Ordered.{ascends_filter}
 use Rattle.ready_renewal.specs.Asked.{IsAllowedOn, IsRefusedOn}
 use Rattle.ready_renewal.specs.Covering.{Covers, CoversStill, IsFirstOf, Sheds}
 use Rattle.snap_hand.specs.Hands.{Parts}
@@ -90,7 +90,7 @@ first_of w h e old es ruled is allowed still s run fits c = record {
       (λ there. (ruled w f s).0 (eqb-true (refusal w f s) 0 (from_filter test es f (to_has (filter test es) f there)).1)),
       (λ now. from_has (filter test es) f (has_filter test es f (to_has es f ((still s run fits c).all f now)) (eq-eqb (refusal w f s) 0 ((ruled w f s).1 now)))),
     );
-    ascends = ascends_filter test es (still s run fits c).ascends;
+    ascends = filtered test es (still s run fits c).ascends;
   };
   first = first_kept test es e is (eq-eqb (refusal w e s) 0 ((ruled w e s).1 (allowed s run fits)));
 }

@@ -144,14 +144,6 @@ read_meant [] i f h e = absurd (omega (arith, h))
 read_meant (x ∷ xs) zero f h e = ap event_meant e
 read_meant (x ∷ xs) (suc i) f h e = read_meant xs i f (omega (arith, h)) e
 
--- the pieces of a list are as long as it is
-pub same_length : (xs : List code.Event) (es : List Event) → map event_meant xs ≡ es → length xs ≡ length es
-same_length xs es e = subst (λ v. length xs ≡ length v) e (sym (mapped xs))
-  where
-    mapped : (xs : List code.Event) → length (map event_meant xs) ≡ length xs
-    mapped [] = refl
-    mapped (x ∷ xs) = omega (arith, mapped xs)
-
 pub none_asked : (w : Fixed Rest) (h : Parts) (e : Event) (es : List Event) (first : ℕ) (gone : List Event) → AreAsked w h e es first first gone gone
 none_asked w h e es first gone = record { out = λ g c. inl c; kept = λ g c. c; asked = λ j past ahead. absurd (omega (arith, past, ahead)) }
 

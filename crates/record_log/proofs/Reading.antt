@@ -1,7 +1,8 @@
 -- Items of a log that are read as records, one after the other.
-use Rattle.std.proofs.Common.{◌≡◌, ℕ, zero, suc, ◌+◌, ◌<◌, ◌≤◌, ◌^◌, List, [], ◌∷◌, ◌++◌, length, take, drop, get_or, refl, sym, ◌∙◌, ap, subst, append_assoc, arith}
+use Rattle.std.proofs.Common.{◌≡◌, ℕ, ◌+◌, ◌<◌, ◌≤◌, ◌^◌, List, [], ◌∷◌, ◌++◌, length, take, drop, get_or, refl, sym, ◌∙◌, ap, subst, append_assoc, arith}
 use Rattle.std.proofs.lemmas.List.{length-append, take-append-drop, take_more}
 use Rattle.std.specs.List.{AllByRecursion}
+use Rattle.snap_base.proofs.Lists.{all_join, each_read}
 use Rattle.gate_log.specs.declared.logs.LogItem.{LogItem}
 use Rattle.gate_log.specs.Bytes.{header, item_bytes, items_bytes, group_bytes, blocks, placed_items, placed_groups, IsItem, IsGroup, IsPlacedLogAt}
 use Rattle.txn_records.specs.declared.records.Record.{Record}
@@ -11,15 +12,6 @@ use Rattle.record_log.specs.Reading.{IsNearItem, IsNoItem}
 use Rattle.record_log.specs.Records.{IsItemOf, AreItemsOf, AreNoRecords}
 
 -- ---- where the items of a log lie
-
-all_append : {X : Type 0} (P : X → Type 0) (xs ys : List X) → AllByRecursion P xs → AllByRecursion P ys → AllByRecursion P (xs ++ ys)
-all_append P [] ys xs_are ys_are = ys_are
-all_append P (x ∷ xs) ys xs_are ys_are = (xs_are.0, all_append P xs ys xs_are.1 ys_are)
-
-all_at : {X : Type 0} (P : X → Type 0) (xs : List X) (i : ℕ) (d : X) → AllByRecursion P xs → i < length xs → P (get_or xs i d)
-all_at P [] i d are lt = absurd (omega (arith, lt))
-all_at P (x ∷ xs) zero d are lt = are.0
-all_at P (x ∷ xs) (suc i) d are lt = all_at P xs i d are.1 (omega (arith, lt))
 
 items_near : (place : ℕ) (items : List (List ℕ)) → AllByRecursion IsItem items → place + length (items_bytes items) ≤ 2 ^ 63 → AllByRecursion IsNearItem (placed_items place items)
 items_near place [] are low = tt
@@ -33,7 +25,7 @@ groups_near place [] are low = tt
 groups_near place (group ∷ groups) are low =
     let size = length-append (1 ∷ group_bytes group) (blocks groups) in
     let first : length (1 ∷ group_bytes group) ≡ 5 + length (items_bytes group) = omega arith in
-    all_append IsNearItem (placed_items (place + 5) group) (placed_groups (place + 5 + length (items_bytes group)) groups)
+    all_join IsNearItem (placed_items (place + 5) group) (placed_groups (place + 5 + length (items_bytes group)) groups)
     (items_near (place + 5) group are.0.items (omega (arith, low, size, first)))
     (groups_near (place + 5 + length (items_bytes group)) groups are.1 (omega (arith, low, size, first)))
 
@@ -46,7 +38,7 @@ log_near bytes end items log low =
 pub near_at : (bytes : List ℕ) (end : ℕ) (items : List LogItem) (i : ℕ) (item : LogItem) → IsPlacedLogAt bytes end items → end ≤ 2 ^ 63
     → i < length items → item ≡ get_or items i item → IsNearItem item
 near_at bytes end items i item log low within is =
-    subst (λ (x : LogItem). IsNearItem x) (sym is) (all_at IsNearItem items i item (log_near bytes end items log low) within)
+    subst (λ (x : LogItem). IsNearItem x) (sym is) (each_read IsNearItem items i item (log_near bytes end items log low) within)
 
 -- ---- the records so far
 

@@ -7,6 +7,8 @@ use Rattle.std.proofs.lemmas.List.{map-append}
 use Rattle.snap_base.specs.declared.ids.ActorId.{ActorId}
 use Rattle.snap_base.specs.declared.ids.Bid.{Bid}
 use Rattle.snap_base.specs.declared.ids.Tid.{Tid}
+use Rattle.snap_base.proofs.Options.{some_mapped}
+use Rattle.snap_base.proofs.Lists.{all_mid, all_join, weaker, both_all}
 use Rattle.protocol.specs.Fixed.{Fixed, base}
 use Rattle.protocol.specs.Numbers.{from}
 use Rattle.protocol.specs.Records as machine
@@ -24,7 +26,7 @@ use Rattle.snap_recover.specs.declared.openings.Kept.TheVariants as kept
 use Rattle.snap_recover.specs.declared.openings.Opening.{Opening}
 use Rattle.snap_recover.specs.Logs.{all_of, tids_in, bids_in, commits_in}
 use Rattle.snap_recover.specs.Opening.{IsIn, IsInfoOf, HasItsValues, IsActOf, act_record, commit_of, IsKeptIn, ComesBefore, IsCommitted}
-use Rattle.snap_recover.proofs.Lists.{all_append, all_weaker, all_both, contains_here, contains_there, contains_left, contains_right}
+use Rattle.snap_recover.proofs.Lists.{contains_here, contains_there, contains_left, contains_right}
 use Rattle.snap_recover.proofs.Greatest.{each_below}
 use Rattle.protocol_laws.proofs.Lemmas.{found_bid, found_tid}
 use Rattle.log_set.specs.Told.{bid_of, tid_of, tids_of, actors_of}
@@ -40,21 +42,17 @@ mapped_is : {X Y : Type 0} (f : X → Y) (o : Option X) (x : X) (y : Y) → o �
 mapped_is f None x y e h = absurd (cc e)
 mapped_is f (Some z) x y e h = let i : z ≡ x = cc e in subst (λ q. f q ≡ y) i (cc h)
 
-some_mapped : {X Y : Type 0} (f : X → Y) (o : Option X) (y : Y) → option_map f o ≡ Some y → (x : X) × (o ≡ Some x) × (f x ≡ y)
-some_mapped f None y e = absurd (cc e)
-some_mapped f (Some x) y e = (x, refl, cc e)
-
 -- each batch is found under its number
 pub found_at : (n : ℕ) (bs : List Batch) → map (λ b. b.bid) bs ≡ from n (length bs) → AllByRecursion (λ b. (n ≤ b.bid) × (batch_of b.bid bs ≡ Some b)) bs
 found_at n [] e = tt
 found_at n (x ∷ xs) e =
     let i : x.bid ≡ n = cc e in
-    ((omega (arith, i), rw (eq-eqb x.bid x.bid refl) refl), all_weaker (λ b. (n + 1 ≤ b.bid) × (batch_of b.bid xs ≡ Some b)) (λ b. (n ≤ b.bid) × (batch_of b.bid (x ∷ xs) ≡ Some b)) xs (λ b h. (omega (arith, h.0), rw (ne_eqb x.bid b.bid (λ q. omega (arith, q, i, h.0))) h.1)) (found_at (n + 1) xs (cc e)))
+    ((omega (arith, i), rw (eq-eqb x.bid x.bid refl) refl), weaker (λ b. (n + 1 ≤ b.bid) × (batch_of b.bid xs ≡ Some b)) (λ b. (n ≤ b.bid) × (batch_of b.bid (x ∷ xs) ≡ Some b)) xs (λ b h. (omega (arith, h.0), rw (ne_eqb x.bid b.bid (λ q. omega (arith, q, i, h.0))) h.1)) (found_at (n + 1) xs (cc e)))
 
 -- each ACT is found under its tid
 pub found_acts : (xs : List Act) → Apart xs → AllByRecursion (λ x. act_of x.tid xs ≡ Some x) xs
 found_acts [] a = tt
-found_acts (x ∷ xs) a = (rw (eq-eqb x.tid x.tid refl) refl, all_both (λ y. y.tid ≢ x.tid) (λ y. act_of y.tid xs ≡ Some y) (λ y. act_of y.tid (x ∷ xs) ≡ Some y) xs (λ y n e. rw (ne_eqb x.tid y.tid (λ q. n (sym q))) e) a.0 (found_acts xs a.1))
+found_acts (x ∷ xs) a = (rw (eq-eqb x.tid x.tid refl) refl, both_all (λ y. y.tid ≢ x.tid) (λ y. act_of y.tid xs ≡ Some y) (λ y. act_of y.tid (x ∷ xs) ≡ Some y) xs (λ y n e. rw (ne_eqb x.tid y.tid (λ q. n (sym q))) e) a.0 (found_acts xs a.1))
 
 batches_rise : (many : ℕ) (logs : ℕ → List LogRecord) (n c : ℕ) (bs : List Batch) → map (λ b. b.bid) bs ≡ from n (length bs) → AllByRecursion (IsNew n c) (recovered_batches many logs bs) × Rises (recovered_batches many logs bs)
 batches_rise many logs n c [] e = (tt, tt)
@@ -68,7 +66,7 @@ batches_rise many logs n c (x ∷ xs) e = by (is_in many logs (OfBatch x.bid)) (
     lower (kept.Act t m d x1) q = (omega (arith, q.0), q.1)
 
     before : (bs : List Batch) → AllByRecursion (IsNew (n + 1) c) (recovered_batches many logs bs) → AllByRecursion (ComesBefore (recovered_batch x)) (recovered_batches many logs bs)
-    before bs h = all_weaker (IsNew (n + 1) c) (ComesBefore (recovered_batch x)) (recovered_batches many logs bs) one h
+    before bs h = weaker (IsNew (n + 1) c) (ComesBefore (recovered_batch x)) (recovered_batches many logs bs) one h
       where
         one : (y : Kept) → IsNew (n + 1) c y → ComesBefore (recovered_batch x) y
         one (kept.Batch b tids bv) q = omega (arith, q, i)
@@ -76,8 +74,8 @@ batches_rise many logs n c (x ∷ xs) e = by (is_in many logs (OfBatch x.bid)) (
 
     by : (v : Bool) → AllByRecursion (IsNew (n + 1) c) (recovered_batches many logs xs) × Rises (recovered_batches many logs xs)
         → AllByRecursion (IsNew n c) (if v then recovered_batch x ∷ recovered_batches many logs xs else recovered_batches many logs xs) × Rises (if v then recovered_batch x ∷ recovered_batches many logs xs else recovered_batches many logs xs)
-    by true h = ((omega (arith, i), all_weaker (IsNew (n + 1) c) (IsNew n c) (recovered_batches many logs xs) lower h.0), (before xs h.0, h.1))
-    by false h = (all_weaker (IsNew (n + 1) c) (IsNew n c) (recovered_batches many logs xs) lower h.0, h.1)
+    by true h = ((omega (arith, i), weaker (IsNew (n + 1) c) (IsNew n c) (recovered_batches many logs xs) lower h.0), (before xs h.0, h.1))
+    by false h = (weaker (IsNew (n + 1) c) (IsNew n c) (recovered_batches many logs xs) lower h.0, h.1)
 
 -- a batch is no ACT
 batches_other : (many : ℕ) (logs : ℕ → List LogRecord) (n : ℕ) (bs : List Batch) → AllByRecursion (IsOther n) (recovered_batches many logs bs)
@@ -87,10 +85,6 @@ batches_other many logs n (x ∷ xs) = by (is_in many logs (OfBatch x.bid)) (bat
     by : (v : Bool) → AllByRecursion (IsOther n) (recovered_batches many logs xs) → AllByRecursion (IsOther n) (if v then recovered_batch x ∷ recovered_batches many logs xs else recovered_batches many logs xs)
     by true h = (tt, h)
     by false h = h
-
-middle : {X : Type 0} (P : X → Type 0) (x : X) (front rest : List X) → AllByRecursion P (front ++ x ∷ rest) → P x
-middle P x [] rest h = h.0
-middle P x (y ∷ ys) rest h = middle P x ys rest h.1
 
 -- ---- values
 
@@ -124,7 +118,7 @@ pub record DoneTold {C : Type 0} (w : Fixed C) (s : Machine C) (logs : ℕ → L
 pub done_told : {C : Type 0} (w : Fixed C) (earlier : List (List Record)) (o : Opening) (s : Machine C) (logs : ℕ → List LogRecord) (k : ℕ) → Known w earlier o s logs → is_in w.text.logs logs (OfBatch k) ≡ true → DoneTold w s logs k
 done_told w earlier o s logs k g e =
     let d = done_at k (logs (k % w.text.logs)) e in
-    let t = middle (TellsOf s.desk.batches s.book.acts) (machine.BatchDone k d.values) d.front d.rest (subst (AllByRecursion (TellsOf s.desk.batches s.book.acts)) d.splits (g.tells (k % w.text.logs))) in
+    let t = all_mid (TellsOf s.desk.batches s.book.acts) (machine.BatchDone k d.values) d.front d.rest (subst (AllByRecursion (TellsOf s.desk.batches s.book.acts)) d.splits (g.tells (k % w.text.logs))) in
     record { at = d; results = t.1 }
 
 -- each batch that is in has as many values as transactions, where its commit tells them
@@ -137,7 +131,7 @@ valued_grown {C} w earlier o s logs b g h = elim (in_cases w earlier o s logs b 
     is : is_in w.text.logs logs (OfBatch b.0) ≡ true → HasItsValues (grown earlier logs) b
     is q =
         let x = g.whole b.0 q in
-        let t = middle (TellsOf s.desk.batches s.book.acts) (machine.BatchInfo b.0 x.actors x.tids) x.front x.rest (subst (AllByRecursion (TellsOf s.desk.batches s.book.acts)) x.info (g.tells (b.0 % w.text.logs))) in
+        let t = all_mid (TellsOf s.desk.batches s.book.acts) (machine.BatchInfo b.0 x.actors x.tids) x.front x.rest (subst (AllByRecursion (TellsOf s.desk.batches s.book.acts)) x.info (g.tells (b.0 % w.text.logs))) in
         let d = done_told w earlier o s logs b.0 g q in
         let y = some_mapped batch_tids (batch_of b.0 s.desk.batches) x.tids t.1 in
         let r : batch_results y.0 ≡ map valued d.at.values = mapped_is batch_results (batch_of b.0 s.desk.batches) y.0 (map valued d.at.values) y.1 d.results in
@@ -157,7 +151,7 @@ new_kept {C} w earlier o s logs (b ∷ bs) g h = by (is_in w.text.logs logs (OfB
     by : (v : Bool) → is_in w.text.logs logs (OfBatch b.bid) ≡ v → AllByRecursion (IsKeptIn (grown earlier logs)) (recovered_batches w.text.logs logs bs) → AllByRecursion (IsKeptIn (grown earlier logs)) (if v then recovered_batch b ∷ recovered_batches w.text.logs logs bs else recovered_batches w.text.logs logs bs)
     by true e r =
         let x = g.whole b.bid e in
-        let t = middle (TellsOf s.desk.batches s.book.acts) (machine.BatchInfo b.bid x.actors x.tids) x.front x.rest (subst (AllByRecursion (TellsOf s.desk.batches s.book.acts)) x.info (g.tells (b.bid % w.text.logs))) in
+        let t = all_mid (TellsOf s.desk.batches s.book.acts) (machine.BatchInfo b.bid x.actors x.tids) x.front x.rest (subst (AllByRecursion (TellsOf s.desk.batches s.book.acts)) x.info (g.tells (b.bid % w.text.logs))) in
         let same : batch_tids b ≡ x.tids = mapped_is batch_tids (batch_of b.bid s.desk.batches) b x.tids h.0 t.1 in
         let d = done_told w earlier o s logs b.bid g e in
         let values : map (λ p. value_of p.result) b.pacts ≡ d.at.values = values_back b.pacts d.at.values (mapped_is batch_results (batch_of b.bid s.desk.batches) b (map valued d.at.values) h.0 d.results) in (
@@ -180,7 +174,7 @@ number_is c (Rattle.protocol.specs.Parts.Sealed d) e = eqb-true d c e
 pub act_told : {C : Type 0} (w : Fixed C) (earlier : List (List Record)) (o : Opening) (s : Machine C) (logs : ℕ → List LogRecord) (t : ℕ) (g : Known w earlier o s logs) (e : is_in w.text.logs logs (OfAct t) ≡ true) → (let y = g.whole_acts t e in ActCommitted s.book.acts t y.m y.c y.v y.actors)
 act_told w earlier o s logs t g e =
     let y = g.whole_acts t e in
-    middle (TellsOf s.desk.batches s.book.acts) (machine.ActDone t y.m y.c y.v y.actors) y.front y.rest (subst (AllByRecursion (TellsOf s.desk.batches s.book.acts)) y.commit (g.tells (t % w.text.logs)))
+    all_mid (TellsOf s.desk.batches s.book.acts) (machine.ActDone t y.m y.c y.v y.actors) y.front y.rest (subst (AllByRecursion (TellsOf s.desk.batches s.book.acts)) y.commit (g.tells (t % w.text.logs)))
 
 act_kept : {C : Type 0} (w : Fixed C) (earlier : List (List Record)) (o : Opening) (s : Machine C) (logs : ℕ → List LogRecord) (x : Act) → Known w earlier o s logs → act_of x.tid s.book.acts ≡ Some x → base w.text ≤ x.m → is_in w.text.logs logs (OfAct x.tid) ≡ true
     → IsKeptIn (grown earlier logs) (recovered_act x) × IsNew w.text.opening.next_bid w.text.opening.next_c (recovered_act x)
@@ -212,9 +206,9 @@ act_cs t m c (Some v) actors = refl
 
 commit_of_act : {C : Type 0} (w : Fixed C) (earlier : List (List Record)) (o : Opening) (s : Machine C) (logs : ℕ → List LogRecord) (t : Tid) (m : Bid) (c : ℕ) (value : Option ℤ) (actors : List ActorId) → Known w earlier o s logs → IsActOf earlier t m c value actors → (t.0 < w.text.opening.next_tid) × (m.0 < w.text.opening.next_bid) × (c < w.text.opening.next_c)
 commit_of_act w earlier o s logs t m c value actors g (front, behind, e, p, quiet) = (
-  (subst (AllByRecursion (λ x. x < w.text.opening.next_tid)) (act_tids t m c value actors) (middle (λ r. AllByRecursion (λ x. x < w.text.opening.next_tid) (tids_in r)) (act_record t m c value actors) front behind (subst (AllByRecursion (λ r. AllByRecursion (λ x. x < w.text.opening.next_tid) (tids_in r))) e (old_acts_low w earlier o s logs t.0 g)))).0,
-  (subst (AllByRecursion (λ x. x < w.text.opening.next_bid)) (act_bids t m c value actors) (middle (λ r. AllByRecursion (λ x. x < w.text.opening.next_bid) (bids_in r)) (act_record t m c value actors) front behind (subst (AllByRecursion (λ r. AllByRecursion (λ x. x < w.text.opening.next_bid) (bids_in r))) e (old_low w earlier o s logs t.0 g)))).0,
-  (subst (AllByRecursion (λ x. x < w.text.opening.next_c)) (act_cs t m c value actors) (middle (λ r. AllByRecursion (λ x. x < w.text.opening.next_c) (commits_in r)) (act_record t m c value actors) front behind (subst (AllByRecursion (λ r. AllByRecursion (λ x. x < w.text.opening.next_c) (commits_in r))) e
+  (subst (AllByRecursion (λ x. x < w.text.opening.next_tid)) (act_tids t m c value actors) (all_mid (λ r. AllByRecursion (λ x. x < w.text.opening.next_tid) (tids_in r)) (act_record t m c value actors) front behind (subst (AllByRecursion (λ r. AllByRecursion (λ x. x < w.text.opening.next_tid) (tids_in r))) e (old_acts_low w earlier o s logs t.0 g)))).0,
+  (subst (AllByRecursion (λ x. x < w.text.opening.next_bid)) (act_bids t m c value actors) (all_mid (λ r. AllByRecursion (λ x. x < w.text.opening.next_bid) (bids_in r)) (act_record t m c value actors) front behind (subst (AllByRecursion (λ r. AllByRecursion (λ x. x < w.text.opening.next_bid) (bids_in r))) e (old_low w earlier o s logs t.0 g)))).0,
+  (subst (AllByRecursion (λ x. x < w.text.opening.next_c)) (act_cs t m c value actors) (all_mid (λ r. AllByRecursion (λ x. x < w.text.opening.next_c) (commits_in r)) (act_record t m c value actors) front behind (subst (AllByRecursion (λ r. AllByRecursion (λ x. x < w.text.opening.next_c) (commits_in r))) e
       (all_at (λ r. AllByRecursion (λ x. x < w.text.opening.next_c) (commits_in r)) earlier (t.0 % length earlier) (each_below commits_in (all_of earlier) w.text.opening.next_c (omega (arith, g.before.next_c, g.begins.next_c))))))).0,
 )
 
@@ -260,9 +254,9 @@ known_commit bs xs k (machine.ActDone t m c v actors ∷ rs) h e = known_commit 
 -- what is in: each is kept, is of this run, and they rise
 pub new_kept_all : {C : Type 0} (w : Fixed C) (earlier : List (List Record)) (o : Opening) (s : Machine C) (logs : ℕ → List LogRecord) → Known w earlier o s logs → AllByRecursion (IsKeptIn (grown earlier logs)) (all_in w.text.logs logs s) × AllByRecursion (IsNew w.text.opening.next_bid w.text.opening.next_c) (all_in w.text.logs logs s) × Rises (all_in w.text.logs logs s)
 new_kept_all {C} w earlier o s logs g = (
-  acts_all (IsKeptIn (grown earlier logs)) w.text.logs logs s.book.acts (recovered_batches w.text.logs logs s.desk.batches) (all_weaker Both (λ x. is_in w.text.logs logs (OfAct x.tid) ≡ true → IsKeptIn (grown earlier logs) (recovered_act x)) s.book.acts (λ x p e. (p e).0) each)
-      (new_kept w earlier o s logs s.desk.batches g (all_weaker (λ b. (w.text.opening.next_bid ≤ b.bid) × (batch_of b.bid s.desk.batches ≡ Some b)) (λ b. batch_of b.bid s.desk.batches ≡ Some b) s.desk.batches (λ b h. h.1) (found_at w.text.opening.next_bid s.desk.batches g.bids))),
-  acts_all (IsNew w.text.opening.next_bid w.text.opening.next_c) w.text.logs logs s.book.acts (recovered_batches w.text.logs logs s.desk.batches) (all_weaker Both (λ x. is_in w.text.logs logs (OfAct x.tid) ≡ true → IsNew w.text.opening.next_bid w.text.opening.next_c (recovered_act x)) s.book.acts (λ x p e. (p e).1) each) rise.0,
+  acts_all (IsKeptIn (grown earlier logs)) w.text.logs logs s.book.acts (recovered_batches w.text.logs logs s.desk.batches) (weaker Both (λ x. is_in w.text.logs logs (OfAct x.tid) ≡ true → IsKeptIn (grown earlier logs) (recovered_act x)) s.book.acts (λ x p e. (p e).0) each)
+      (new_kept w earlier o s logs s.desk.batches g (weaker (λ b. (w.text.opening.next_bid ≤ b.bid) × (batch_of b.bid s.desk.batches ≡ Some b)) (λ b. batch_of b.bid s.desk.batches ≡ Some b) s.desk.batches (λ b h. h.1) (found_at w.text.opening.next_bid s.desk.batches g.bids))),
+  acts_all (IsNew w.text.opening.next_bid w.text.opening.next_c) w.text.logs logs s.book.acts (recovered_batches w.text.logs logs s.desk.batches) (weaker Both (λ x. is_in w.text.logs logs (OfAct x.tid) ≡ true → IsNew w.text.opening.next_bid w.text.opening.next_c (recovered_act x)) s.book.acts (λ x p e. (p e).1) each) rise.0,
   acts_rise w.text.logs logs s.book.acts (recovered_batches w.text.logs logs s.desk.batches) g.apart (λ n. batches_other w.text.logs logs n s.desk.batches) rise.1,
 )
   where
@@ -273,7 +267,7 @@ new_kept_all {C} w earlier o s logs g = (
     rise = batches_rise w.text.logs logs w.text.opening.next_bid w.text.opening.next_c s.desk.batches g.bids
 
     each : AllByRecursion Both s.book.acts
-    each = all_both (λ x. act_of x.tid s.book.acts ≡ Some x) (λ x. base w.text ≤ x.m) Both s.book.acts (λ x f l e. act_kept w earlier o s logs x g f l e) (found_acts s.book.acts g.apart) g.based
+    each = both_all (λ x. act_of x.tid s.book.acts ≡ Some x) (λ x. base w.text ≤ x.m) Both s.book.acts (λ x f l e. act_kept w earlier o s logs x g f l e) (found_acts s.book.acts g.apart) g.based
 
 pub committed_grown : {C : Type 0} (w : Fixed C) (earlier : List (List Record)) (o : Opening) (s : Machine C) (logs : ℕ → List LogRecord) → Known w earlier o s logs → IsCommitted (grown earlier logs) (o.committed ++ all_in w.text.logs logs s)
 committed_grown {C} w earlier o s logs g =
@@ -282,7 +276,7 @@ committed_grown {C} w earlier o s logs g =
     let many = w.text.logs in
     record {
       ascend = rises_from (o.committed ++ all_in w.text.logs logs s) (rises_join w.text.opening.next_bid w.text.opening.next_c o.committed (all_in w.text.logs logs s) g.some_bid (rises_to o.committed g.before.committed.ascend) old.1 new.1 new.2);
-      each = all_append (IsKeptIn (grown earlier logs)) o.committed (all_in w.text.logs logs s) old.0 new.0;
+      each = all_join (IsKeptIn (grown earlier logs)) o.committed (all_in w.text.logs logs s) old.0 new.0;
       all_batches = λ b h. subst (λ z. Contains z (keys.Commit b)) (sym (map-append commit_of o.committed (all_in w.text.logs logs s))) (elim (in_cases w earlier o s logs b g h) [
         | inl q ↦ contains_left (map commit_of o.committed) (map commit_of (all_in w.text.logs logs s)) (keys.Commit b) (g.before.committed.all_batches b q)
         | inr q ↦ contains_right (map commit_of o.committed) (map commit_of (all_in w.text.logs logs s)) (keys.Commit b) (batch_there b q)

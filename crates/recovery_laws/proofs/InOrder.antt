@@ -5,6 +5,8 @@ use Rattle.std.proofs.Common.{arith, sym, subst, inl, inr, ◌∙◌}
 use Rattle.std.proofs.lemmas.Bool.{true≢false, or_cases, or_left, or_right, and_parts, and_from, eqb-true, eq-eqb, ltb-true, ltb-false, leb-true, lt-ltb, le-leb}
 use Rattle.snap_base.specs.declared.ids.Bid.{Bid}
 use Rattle.snap_base.specs.declared.ids.Tid.{Tid}
+use Rattle.snap_base.proofs.Booleans.{three_ways}
+use Rattle.snap_base.proofs.Lists.{all_join, weaker}
 use Rattle.protocol.specs.Records.{LogRecord}
 use Rattle.protocol.specs.Parts.{Act, OfAct}
 use Rattle.protocol.specs.Words.{act_of}
@@ -12,7 +14,7 @@ use Rattle.protocol_records.specs.Crash.{is_in}
 use Rattle.snap_recover.specs.declared.openings.Kept.{Kept}
 use Rattle.snap_recover.specs.declared.openings.Kept.TheVariants as kept
 use Rattle.snap_recover.specs.Opening.{ComesBefore}
-use Rattle.snap_recover.proofs.Lists.{all_append, all_weaker, contains_cases, contains_here, contains_there}
+use Rattle.snap_recover.proofs.Lists.{contains_cases, contains_here, contains_there}
 use Rattle.log_set.specs.Told.{bid_of, tid_of}
 use Rattle.recovery_laws.specs.Grown.{comes_before, put_recovered, commit_number_of, told_value, recovered_act, with_acts}
 use Rattle.recovery_laws.proofs.KnownLogs.{Apart}
@@ -44,14 +46,6 @@ rises_to (x ∷ xs) h = (each xs (λ j l. h 0 (suc j) x (omega arith) (omega (ar
     each (y ∷ ys) k = (k 0 (omega arith), each ys (λ j l. k (suc j) (omega (arith, l))))
 
 -- ---- the order
-
-three_ways : (a b : ℕ) → (a < b) ⊎ ((a ≡ b) ⊎ (b < a))
-three_ways a b = by (nat_lt a b) refl (nat_lt b a) refl
-  where
-    by : (v : Bool) → nat_lt a b ≡ v → (u : Bool) → nat_lt b a ≡ u → (a < b) ⊎ ((a ≡ b) ⊎ (b < a))
-    by true e u f = inl (ltb-true a b e)
-    by false e true f = inr (inr (ltb-true b a f))
-    by false e false f = inr (inl (omega (arith, ltb-false a b e, ltb-false b a f)))
 
 by_number : (c d e t u v : ℕ) → (c < d) ⊎ ((c ≡ d) × (t < u)) → (d < e) ⊎ ((d ≡ e) × (u < v)) → (c < e) ⊎ ((c ≡ e) × (t < v))
 by_number c d e t u v (inl a) (inl b) = inl (omega (arith, a, b))
@@ -144,7 +138,7 @@ put_rises k (x ∷ xs) h r = by (comes_before k x) refl (put_rises k xs h.1 r.1)
     behind (inr a) e = a
 
     by : (v : Bool) → comes_before k x ≡ v → Rises (put_recovered k xs) → Rises (if v then k ∷ x ∷ xs else x ∷ put_recovered k xs)
-    by true e q = ((before_true k x e, all_weaker (ComesBefore x) (ComesBefore k) xs (λ y p. goes_on k x y (before_true k x e) p) r.0), r)
+    by true e q = ((before_true k x e, weaker (ComesBefore x) (ComesBefore k) xs (λ y p. goes_on k x y (before_true k x e) p) r.0), r)
     by false e q = (put_all (ComesBefore x) k xs (behind h.0 e) r.0, q)
 
 put_here : {Y : Type 0} (f : Kept → Y) (k : Kept) (xs : List Kept) → Contains (map f (put_recovered k xs)) (f k)
@@ -181,10 +175,10 @@ acts_rise many logs [] ks a o r = r
 acts_rise many logs (x ∷ xs) ks a o r = by (is_in many logs (OfAct x.tid)) (acts_rise many logs xs ks a.1 o r)
   where
     others : AllByRecursion (IsOther x.tid) (with_acts many logs xs ks)
-    others = acts_all (IsOther x.tid) many logs xs ks (all_weaker (λ y. y.tid ≢ x.tid) (λ y. is_in many logs (OfAct y.tid) ≡ true → IsOther x.tid (recovered_act y)) xs (λ y q e. q) a.0) (o x.tid)
+    others = acts_all (IsOther x.tid) many logs xs ks (weaker (λ y. y.tid ≢ x.tid) (λ y. is_in many logs (OfAct y.tid) ≡ true → IsOther x.tid (recovered_act y)) xs (λ y q e. q) a.0) (o x.tid)
 
     by : (v : Bool) → Rises (with_acts many logs xs ks) → Rises (if v then put_recovered (recovered_act x) (with_acts many logs xs ks) else with_acts many logs xs ks)
-    by true q = put_rises (recovered_act x) (with_acts many logs xs ks) (all_weaker (IsOther x.tid) (λ y. ComesBefore (recovered_act x) y ⊎ ComesBefore y (recovered_act x)) (with_acts many logs xs ks) (λ y p. one_of_two (tid_of x.tid) (bid_of x.m) (commit_number_of x.status) (told_value x.result) y p) others) q
+    by true q = put_rises (recovered_act x) (with_acts many logs xs ks) (weaker (IsOther x.tid) (λ y. ComesBefore (recovered_act x) y ⊎ ComesBefore y (recovered_act x)) (with_acts many logs xs ks) (λ y p. one_of_two (tid_of x.tid) (bid_of x.m) (commit_number_of x.status) (told_value x.result) y p) others) q
     by false q = q
 
 pub acts_keep : {Y : Type 0} (f : Kept → Y) (many : ℕ) (logs : ℕ → List LogRecord) (xs : List Act) (ks : List Kept) (c : Y) → Contains (map f ks) c → Contains (map f (with_acts many logs xs ks)) c
@@ -236,4 +230,4 @@ old_before_new bid c (kept.Act t m d x1) (kept.Act u n e x2) l h k = by (three_w
 
 pub rises_join : (bid c : ℕ) (xs ys : List Kept) → 1 ≤ bid → Rises xs → AllByRecursion (IsOld bid c) xs → AllByRecursion (IsNew bid c) ys → Rises ys → Rises (xs ++ ys)
 rises_join bid c [] ys l h o n r = r
-rises_join bid c (x ∷ xs) ys l h o n r = (all_append (ComesBefore x) xs ys h.0 (all_weaker (IsNew bid c) (ComesBefore x) ys (λ y q. old_before_new bid c x y l o.0 q) n), rises_join bid c xs ys l h.1 o.1 n r)
+rises_join bid c (x ∷ xs) ys l h o n r = (all_join (ComesBefore x) xs ys h.0 (weaker (IsNew bid c) (ComesBefore x) ys (λ y q. old_before_new bid c x y l o.0 q) n), rises_join bid c xs ys l h.1 o.1 n r)

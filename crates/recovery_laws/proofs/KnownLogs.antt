@@ -4,6 +4,7 @@ use Rattle.std.specs.List.{AllByRecursion}
 use Rattle.std.proofs.Common.{arith, sym, ap, subst, mod-lt, inl, inr, ◌∙◌}
 use Rattle.snap_base.specs.declared.ids.Bid.{Bid}
 use Rattle.snap_base.specs.declared.ids.Tid.{Tid}
+use Rattle.snap_base.proofs.Lists.{all_front, all_back}
 use Rattle.protocol.specs.Fixed.{Fixed, base}
 use Rattle.protocol.specs.Numbers.{from}
 use Rattle.protocol.specs.Records.{LogRecord}
@@ -19,7 +20,7 @@ use Rattle.txn_records.specs.Records.{key}
 use Rattle.snap_recover.specs.declared.openings.Opening.{Opening}
 use Rattle.snap_recover.specs.Logs.{HasKey, all_of, log_of, tids_in, bids_in}
 use Rattle.snap_recover.specs.Opening.{IsIn, IsActIn, IsInRange, IsRecovered}
-use Rattle.snap_recover.proofs.Lists.{all_left, all_right, all_contains, contains_unmap}
+use Rattle.snap_recover.proofs.Lists.{all_contains, contains_unmap}
 use Rattle.snap_recover.proofs.Growing.{has_left, has_right, has_cases}
 use Rattle.snap_recover.proofs.Greatest.{each_below}
 use Rattle.log_set.specs.Told.{bid_of, tid_of, all_told}
@@ -61,8 +62,8 @@ log_grown w earlier o s logs n g =
 
 pub all_at : (P : Record → Type 0) (logs : List (List Record)) (i : ℕ) → AllByRecursion P (all_of logs) → AllByRecursion P (slice_index_or logs i [])
 all_at P [] i h = tt
-all_at P (rs ∷ rss) zero h = all_left P rs (all_of rss) h
-all_at P (rs ∷ rss) (suc i) h = all_at P rss i (all_right P rs (all_of rss) h)
+all_at P (rs ∷ rss) zero h = all_front P rs (all_of rss) h
+all_at P (rs ∷ rss) (suc i) h = all_at P rss i (all_back P rs (all_of rss) h)
 
 -- the batches of earlier runs are below this run's
 pub old_low : {C : Type 0} (w : Fixed C) (earlier : List (List Record)) (o : Opening) (s : Machine C) (logs : ℕ → List LogRecord) (n : ℕ) → Known w earlier o s logs → AllByRecursion (λ r. AllByRecursion (λ x. x < w.text.opening.next_bid) (bids_in r)) (log_of earlier n)

@@ -3,6 +3,7 @@ use Rattle.std.specs.Prelude.{◌≡◌, refl, ℕ, suc, ◌+◌, List, [], ◌�
 use Rattle.std.specs.List.{AllByRecursion, AllZip, enumerate_from}
 use Rattle.std.proofs.Common.{arith, sym, ap, subst, ◌∙◌}
 use Rattle.snap_base.specs.declared.transactions.State.{State}
+use Rattle.snap_base.proofs.Lists.{zip_length}
 use Rattle.protocol.specs.Fixed.{Fixed}
 use Rattle.protocol.specs.Records.{LogRecord}
 use Rattle.protocol.specs.Parts.{Machine}
@@ -12,7 +13,6 @@ use Rattle.txn_records.specs.declared.records.Record.TheVariants.{Genesis}
 use Rattle.snap_recover.specs.declared.openings.Opening.{Opening}
 use Rattle.snap_recover.specs.Logs.{tids_in, bids_in, commits_in}
 use Rattle.snap_recover.specs.Opening.{IsStateOf, greatest, IsInRange, IsRecovered}
-use Rattle.snap_recover.proofs.Lists.{zip_length}
 use Rattle.log_set.specs.Told.{all_told}
 use Rattle.recovery_laws.specs.Grown.{grown, opening_after}
 use Rattle.recovery_laws.proofs.WrittenLists.{tids_written, bids_written, cs_written, grown_length, grown_genesis, grown_all, all_from, grown_greatest, greatest_written}

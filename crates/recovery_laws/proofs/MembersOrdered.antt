@@ -6,6 +6,7 @@ use Rattle.std.proofs.lemmas.Bool.{true≢false, and_parts, and_from, eqb-true}
 use Rattle.snap_base.specs.declared.transactions.TxResult.{TxResult}
 use Rattle.snap_base.specs.declared.transactions.TxResult.TheVariants.{Value, Fail}
 use Rattle.snap_base.specs.declared.verdicts.Place.{Place}
+use Rattle.snap_base.proofs.Lists.{weaker, both_all, all_map}
 use Rattle.protocol.specs.Fixed.{Fixed}
 use Rattle.protocol.specs.Records.{LogRecord}
 use Rattle.protocol.specs.Parts.{Act, Batch, Pact, Status, Live, Doomed, Decided, Sealed, Who, OfBatch, OfAct, Machine}
@@ -21,7 +22,7 @@ use Rattle.protocol_theorems.proofs.Lemmas.{all_sorted, rises_sorted}
 use Rattle.txn_records.specs.declared.records.Record.{Record}
 use Rattle.snap_recover.specs.declared.openings.Kept.{Kept}
 use Rattle.snap_recover.specs.declared.openings.Opening.{Opening}
-use Rattle.snap_recover.proofs.Lists.{all_both, all_weaker, all_map, all_contains, contains_cases, contains_here, contains_there, contains_none, contains_map, contains_middle}
+use Rattle.snap_recover.proofs.Lists.{all_contains, contains_cases, contains_here, contains_there, contains_none, contains_map, contains_middle}
 use Rattle.recovery_laws.specs.Grown.{commit_number_of, told_value, answer_of, recovered_batch, recovered_act, recovered_batches, all_in, answers_of, answer_at}
 use Rattle.recovery_laws.proofs.InOrder.{acts_all, acts_keep, acts_have}
 use Rattle.recovery_laws.proofs.KnownLogs.{Known}
@@ -166,9 +167,9 @@ act_of_members w earlier o s h logs x g t f e =
 
 of_members : {C : Type 0} (w : Fixed C) (earlier : List (List Record)) (o : Opening) (s : Machine C) (h : History) (logs : ℕ → List LogRecord) → Known w earlier o s logs → CommittedTold s h → AllByRecursion (IsOfMembers w.text.logs logs h) (all_in w.text.logs logs s)
 of_members w earlier o s h logs g t = acts_all (IsOfMembers w.text.logs logs h) w.text.logs logs s.book.acts (recovered_batches w.text.logs logs s.desk.batches)
-    (all_weaker (λ x. act_of x.tid s.book.acts ≡ Some x) (λ x. is_in w.text.logs logs (OfAct x.tid) ≡ true → IsOfMembers w.text.logs logs h (recovered_act x)) s.book.acts (λ x f e. act_of_members w earlier o s h logs x g t f e) (found_acts s.book.acts g.apart))
+    (weaker (λ x. act_of x.tid s.book.acts ≡ Some x) (λ x. is_in w.text.logs logs (OfAct x.tid) ≡ true → IsOfMembers w.text.logs logs h (recovered_act x)) s.book.acts (λ x f e. act_of_members w earlier o s h logs x g t f e) (found_acts s.book.acts g.apart))
     (batches_all (IsOfMembers w.text.logs logs h) w.text.logs logs s.desk.batches
-    (all_weaker (λ b. (w.text.opening.next_bid ≤ b.bid) × (batch_of b.bid s.desk.batches ≡ Some b)) (λ b. is_in w.text.logs logs (OfBatch b.bid) ≡ true → IsOfMembers w.text.logs logs h (recovered_batch b)) s.desk.batches (λ b f e. batch_of_members w earlier o s h logs b g t f.1 e) (found_at w.text.opening.next_bid s.desk.batches g.bids)))
+    (weaker (λ b. (w.text.opening.next_bid ≤ b.bid) × (batch_of b.bid s.desk.batches ≡ Some b)) (λ b. is_in w.text.logs logs (OfBatch b.bid) ≡ true → IsOfMembers w.text.logs logs h (recovered_batch b)) s.desk.batches (λ b f e. batch_of_members w earlier o s h logs b g t f.1 e) (found_at w.text.opening.next_bid s.desk.batches g.bids)))
 
 -- ---- from the members to what is in
 
@@ -202,7 +203,7 @@ done_there w earlier o s h logs d (OfAct t) g p q i e v =
 
 members_there : {C : Type 0} (w : Fixed C) (earlier : List (List Record)) (o : Opening) (s : Machine C) (h : History) (logs : ℕ → List LogRecord) → Known w earlier o s logs → CommittedTold s h → AllByRecursion (λ d. Contains (flat_map answers_of (all_in w.text.logs logs s)) (spot_of d)) (members w.text.logs logs h)
 members_there w earlier o s h logs g t = all_filtered (λ d. Contains (flat_map answers_of (all_in w.text.logs logs s)) (spot_of d)) (λ d. is_in w.text.logs logs d.who && is_value d.result) h.committed
-    (all_both (λ d. (k : ℕ) → d.who ≡ OfBatch k → PactFrom s.desk.batches h.kept k d) (λ d. (t : ℕ) → d.who ≡ OfAct t → DoneFrom s.book.acts t d) (λ d. (is_in w.text.logs logs d.who && is_value d.result) ≡ true → Contains (flat_map answers_of (all_in w.text.logs logs s)) (spot_of d)) h.committed
+    (both_all (λ d. (k : ℕ) → d.who ≡ OfBatch k → PactFrom s.desk.batches h.kept k d) (λ d. (t : ℕ) → d.who ≡ OfAct t → DoneFrom s.book.acts t d) (λ d. (is_in w.text.logs logs d.who && is_value d.result) ≡ true → Contains (flat_map answers_of (all_in w.text.logs logs s)) (spot_of d)) h.committed
     (λ d p q e. let v = and_parts (is_in w.text.logs logs d.who) (is_value d.result) e in done_there w earlier o s h logs d d.who g p q refl v.0 v.1) t.pacts_from t.acts_from)
 
 -- ---- the same
@@ -214,7 +215,7 @@ members_ordered w earlier o s h logs g t =
     let ks = all_in w.text.logs logs s in
     let ms = by_place (members w.text.logs logs h) in
     same_spots (flat_map answers_of ks) (map spot_of ms)
-    (spots_rise ks (new_kept_all w earlier o s logs g).2 (all_weaker (IsOfMembers w.text.logs logs h) (λ k. SpotsRise (answers_of k)) ks (λ k q. q.0) k))
+    (spots_rise ks (new_kept_all w earlier o s logs g).2 (weaker (IsOfMembers w.text.logs logs h) (λ k. SpotsRise (answers_of k)) ks (λ k q. q.0) k))
     (dones_rise ms (rises_sorted (members w.text.logs logs h) (differ_filter (λ d. is_in w.text.logs logs d.who && is_value d.result) h.committed t.differ)))
-    (λ z c. all_contains (Contains (map spot_of ms)) (flat_map answers_of ks) z (spots_all (Contains (map spot_of ms)) ks (all_weaker (IsOfMembers w.text.logs logs h) (λ k. AllByRecursion (Contains (map spot_of ms)) (answers_of k)) ks (λ k q. q.1) k)) c)
+    (λ z c. all_contains (Contains (map spot_of ms)) (flat_map answers_of ks) z (spots_all (Contains (map spot_of ms)) ks (weaker (IsOfMembers w.text.logs logs h) (λ k. AllByRecursion (Contains (map spot_of ms)) (answers_of k)) ks (λ k q. q.1) k)) c)
     (λ z c. all_contains (Contains (flat_map answers_of ks)) (map spot_of ms) z (all_map spot_of (Contains (flat_map answers_of ks)) ms (all_sorted (λ d. Contains (flat_map answers_of ks) (spot_of d)) (members w.text.logs logs h) (members_there w earlier o s h logs g t))) c)

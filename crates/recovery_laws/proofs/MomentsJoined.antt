@@ -1,9 +1,11 @@
 -- From the laws of the machine to what recovery asks of logs.
-use Rattle.std.specs.Prelude.{◌≡◌, ◌≢◌, refl, ℕ, zero, suc, ◌+◌, ◌<◌, ◌≤◌, ◌==◌, nat_le, ◌&&◌, Bool, true, false, if◌then◌else◌, Option, Some, None, option_map, List, [], ◌∷◌, ◌++◌, length, map, filter, take, slice_index_or}
+use Rattle.std.specs.Prelude.{◌≡◌, ◌≢◌, refl, ℕ, zero, suc, ◌+◌, ◌<◌, ◌≤◌, ◌==◌, ◌&&◌, Bool, true, false, if◌then◌else◌, Some, List, [], ◌∷◌, ◌++◌, length, map, filter, take, slice_index_or}
 use Rattle.std.specs.List.{AllByRecursion}
 use Rattle.std.proofs.Common.{arith, sym, ap, subst, ◌∙◌}
-use Rattle.std.proofs.lemmas.Bool.{true≢false, eqb-true}
+use Rattle.std.proofs.lemmas.Bool.{eqb-true}
 use Rattle.snap_base.specs.declared.transactions.State.{State}
+use Rattle.snap_base.proofs.Options.{some_mapped}
+use Rattle.snap_base.proofs.Lists.{weaker}
 use Rattle.protocol.specs.Facts.{Alone, state_in}
 use Rattle.protocol.specs.Fixed.{Fixed, IsText}
 use Rattle.protocol.specs.Numbers.{NumbersDrawnOnce}
@@ -13,31 +15,34 @@ use Rattle.protocol.specs.Records.{LogRecord}
 use Rattle.protocol.specs.Parts.{Act, Batch, Declared, Joined, Pact, Log, Machine}
 use Rattle.protocol.specs.Events.{Event}
 use Rattle.protocol.specs.Words.{count, holds, is_formed, is_among, is_value, act_of, batch_of}
-use Rattle.protocol.specs.Effects.{after, log_at, no_log, put_in, ascending}
+use Rattle.protocol.specs.Effects.{after, log_at, no_log}
 use Rattle.protocol.specs.Runs.{EachAllowed, IsRun, opening}
 use Rattle.protocol.specs.Moments.{Moment, left_in}
 use Rattle.protocol.specs.History.{History}
 use Rattle.protocol_records.specs.Crash.{recovered_state, CrashHolds}
 use Rattle.protocol_laws.proofs.Lemmas.{all_take}
 use Rattle.protocol_laws.specs.Ranges.{IsWithin, BatchInRange, ActInRange, NumbersInRange}
+use Rattle.protocol_laws.proofs.machine.TurnsKept.{one_is}
 use Rattle.protocol_records.specs.RecordLaws.{has_key, all_records, batch_actors, batch_tids, act_actors, TellsOf, RecordsTell, RecordsAddedOnce}
 use Rattle.txn_records.specs.declared.records.Record.{Record}
 use Rattle.snap_recover.specs.declared.openings.Opening.{Opening}
 use Rattle.snap_recover.specs.declared.ranges.TheConstants.{GREATEST_NUMBER}
 use Rattle.snap_recover.specs.Opening.{IsInRange, IsRecovered}
-use Rattle.snap_recover.proofs.Lists.{all_weaker}
 use Rattle.log_set.specs.Told.{told, all_told}
 use Rattle.recovery_laws.specs.Grown.{BeginsWith}
 use Rattle.protocol_records.specs.SeveralRuns.{recovered_from}
 use Rattle.protocol_theorems.specs.Sizes.{SizesHold}
+use Rattle.protocol_theorems.proofs.quiet.SubPlaces.{count_join}
+use Rattle.protocol_theorems.proofs.sets.AfterSets.{among_all}
 use Rattle.recovery_laws.proofs.WrittenLists.{same_tids, same_actors, batch_bids, act_tids}
 use Rattle.recovery_laws.proofs.KnownLogs.{Known}
 use Rattle.protocol_records.specs.NextNumbers.{ActsDrawn}
+use Rattle.protocol_records.proofs.crash.CrashWhole.{all_ascending}
 use Rattle.recovery_laws.proofs.ActsApart.{acts_apart}
 
 -- ---- runs
 
-front_allowed : {C : Type 0} (w : Fixed C) (xs ys : List Event) (s : Machine C) → EachAllowed w (xs ++ ys) s → EachAllowed w xs s
+pub front_allowed : {C : Type 0} (w : Fixed C) (xs ys : List Event) (s : Machine C) → EachAllowed w (xs ++ ys) s → EachAllowed w xs s
 front_allowed w [] ys s h = tt
 front_allowed w (x ∷ xs) ys s h = (h.0, front_allowed w xs ys (after w x s) h.1)
 
@@ -54,14 +59,6 @@ count_take p (suc n) (x ∷ xs) = by (p x) (count_take p n xs)
     by : (b : Bool) → length (filter p (take n xs)) ≤ length (filter p xs) → length (if b then x ∷ filter p (take n xs) else filter p (take n xs)) ≤ length (if b then x ∷ filter p xs else filter p xs)
     by true k = omega (arith, k)
     by false k = k
-
-count_join : {X : Type 0} (p : X → Bool) (xs ys : List X) → count p (xs ++ ys) ≡ count p xs + count p ys
-count_join p [] ys = omega arith
-count_join p (x ∷ xs) ys = by (p x) (count_join p xs ys)
-  where
-    by : (b : Bool) → length (filter p (xs ++ ys)) ≡ length (filter p xs) + length (filter p ys) → length (if b then x ∷ filter p (xs ++ ys) else filter p (xs ++ ys)) ≡ length (if b then x ∷ filter p xs else filter p xs) + length (filter p ys)
-    by true e = omega (arith, e)
-    by false e = e
 
 count_log : (p : LogRecord → Bool) (logs : List Log) (l : ℕ) → count p (slice_index_or logs l no_log).records ≤ count p (all_records logs)
 count_log p [] l = omega arith
@@ -84,14 +81,6 @@ found_all P k b (x ∷ xs) h e = by (x.bid == k) refl e (found_all P k b xs h.1)
     by true q e r = let i : x ≡ b = cc e in subst (λ z. P z × (z.bid ≡ k)) i (h.0, eqb-true x.bid k q)
     by false q e r = r e
 
-mapped_some : {X Y : Type 0} (f : X → Y) (o : Option X) (y : Y) → option_map f o ≡ Some y → (x : X) × (o ≡ Some x) × (f x ≡ y)
-mapped_some f None y e = absurd (cc e)
-mapped_some f (Some x) y e = (x, refl, cc e)
-
-one_is : {X : Type 0} (p : X → Bool) (o : Option X) → holds p o ≡ true → (x : X) × (o ≡ Some x) × (p x ≡ true)
-one_is p None e = absurd (true≢false (sym e))
-one_is p (Some x) e = (x, refl, e)
-
 actors_below : (n : ℕ) (ps : List Declared) → AllByRecursion (λ p. p.actor < n) ps → AllByRecursion (λ a. a < n) (map (λ p. p.actor) ps)
 actors_below n [] h = tt
 actors_below n (p ∷ ps) h = (h.0, actors_below n ps h.1)
@@ -103,22 +92,6 @@ tids_below low high (p ∷ ps) l h = (omega (arith, h.0.below, l), tids_below lo
 joined_below : (n : ℕ) (ps : List Joined) → AllByRecursion (λ p. p.actor < n) ps → AllByRecursion (λ a. a < n) (map (λ p. p.actor) ps)
 joined_below n [] h = tt
 joined_below n (p ∷ ps) h = (h.0, joined_below n ps h.1)
-
-put_all : (P : ℕ → Type 0) (a : ℕ) (xs : List ℕ) → P a → AllByRecursion P xs → AllByRecursion P (put_in a xs)
-put_all P a [] p h = (p, tt)
-put_all P a (x ∷ xs) p h = by (nat_le a x) (put_all P a xs p h.1)
-  where
-    by : (v : Bool) → AllByRecursion P (put_in a xs) → AllByRecursion P (if v then a ∷ x ∷ xs else x ∷ put_in a xs)
-    by true r = (p, h)
-    by false r = (h.0, r)
-
-ascending_all : (P : ℕ → Type 0) (xs : List ℕ) → AllByRecursion P xs → AllByRecursion P (ascending xs)
-ascending_all P [] h = tt
-ascending_all P (x ∷ xs) h = put_all P x (ascending xs) h.0 (ascending_all P xs h.1)
-
-among_all : (P : ℕ → Type 0) (a : ℕ) (xs : List ℕ) → is_among a xs ≡ true → AllByRecursion P xs → P a
-among_all P a [] e h = absurd (true≢false (sym e))
-among_all P a (x ∷ xs) e h = elim (Rattle.std.proofs.lemmas.Bool.or_cases (x == a) _ e) [ Rattle.std.proofs.Common.inl q ↦ subst P (eqb-true x a q) h.0 | Rattle.std.proofs.Common.inr q ↦ among_all P a xs q h.1 ]
 
 act_found : (P : Act → Type 0) (t : ℕ) (x : Act) (xs : List Act) → AllByRecursion P xs → act_of t xs ≡ Some x → P x × (x.tid ≡ t)
 act_found P t x [] h e = absurd (cc e)
@@ -137,7 +110,7 @@ prepared_of w s u a n t =
     (x.0, subst (IsWithin w.text.opening.next_tid s.ring.next_tid) g.1 g.0.tid, among_all (λ a. a < length w.text.opening.states) a (act_actors x.0) v.1 (joined_below (length w.text.opening.states) x.0.places g.0.actors))
 
 record_low : {C : Type 0} (w : Fixed C) (s : Machine C) (r : LogRecord) → NumbersInRange w s → TellsOf s.desk.batches s.book.acts r → AllByRecursion (λ n. w.text.opening.next_bid ≤ n) (batch_bids r)
-record_low w s (machine.BatchInfo k actors tids) n t = let b = mapped_some batch_actors (batch_of k s.desk.batches) actors t.0 in let g = found_all (BatchInRange w s) k b.0 s.desk.batches n.batches b.1 in (subst (λ z. w.text.opening.next_bid ≤ z) g.1 g.0.bid.reached, tt)
+record_low w s (machine.BatchInfo k actors tids) n t = let b = some_mapped batch_actors (batch_of k s.desk.batches) actors t.0 in let g = found_all (BatchInRange w s) k b.0 s.desk.batches n.batches b.1 in (subst (λ z. w.text.opening.next_bid ≤ z) g.1 g.0.bid.reached, tt)
 record_low w s (machine.BatchComplete k a st) n t = let b = one_is (λ b. is_among a (batch_actors b)) (batch_of k s.desk.batches) t in let g = found_all (BatchInRange w s) k b.0 s.desk.batches n.batches b.1 in (subst (λ z. w.text.opening.next_bid ≤ z) g.1 g.0.bid.reached, tt)
 record_low w s (machine.BatchDone k vs) n t = let b = one_is (λ b. Rattle.std.specs.Prelude.not (is_formed b.stage)) (batch_of k s.desk.batches) t.0 in let g = found_all (BatchInRange w s) k b.0 s.desk.batches n.batches b.1 in (subst (λ z. w.text.opening.next_bid ≤ z) g.1 g.0.bid.reached, tt)
 record_low w s (machine.ActPrepare u a st) n t = tt
@@ -155,8 +128,8 @@ bid_fits low high k b l h e = omega (arith, h.below, l, e)
 
 record_range : {C : Type 0} (w : Fixed C) (s : Machine C) (r : LogRecord) → NumbersInRange w s → ActsDrawn w s → HaveRoom s → TellsOf s.desk.batches s.book.acts r → IsInRange (length w.text.opening.states) (told r)
 record_range w s (machine.BatchInfo k actors tids) n d f t =
-    let b = mapped_some batch_actors (batch_of k s.desk.batches) actors t.0 in
-    let c = mapped_some batch_tids (batch_of k s.desk.batches) tids t.1 in
+    let b = some_mapped batch_actors (batch_of k s.desk.batches) actors t.0 in
+    let c = some_mapped batch_tids (batch_of k s.desk.batches) tids t.1 in
     let g = found_all (BatchInRange w s) k b.0 s.desk.batches n.batches b.1 in
     let h = found_all (BatchInRange w s) k c.0 s.desk.batches n.batches c.1 in
     record {
@@ -181,7 +154,7 @@ record_range w s (machine.ActDone u m c v actors) n d f t =
     let g = act_found (ActInRange w s) u t.act s.book.acts n.acts t.found in
     let k = d u t.act t.found c t.c_is in
     record {
-      actors_below = subst (AllByRecursion (λ a. a < length w.text.opening.states)) (sym (same_actors actors)) (subst (AllByRecursion (λ a. a < length w.text.opening.states)) t.actors_are (ascending_all (λ a. a < length w.text.opening.states) (act_actors t.act) (joined_below (length w.text.opening.states) t.act.places g.0.actors)));
+      actors_below = subst (AllByRecursion (λ a. a < length w.text.opening.states)) (sym (same_actors actors)) (subst (AllByRecursion (λ a. a < length w.text.opening.states)) t.actors_are (all_ascending (λ a. a < length w.text.opening.states) (act_actors t.act) (joined_below (length w.text.opening.states) t.act.places g.0.actors)));
       numbers_below = (omega (arith, k.behind, t.m_is, f.bids), (omega (arith, k.below, f.cs), (omega (arith, g.0.tid.below, g.1, f.tids), tt)));
     }
 
@@ -206,8 +179,8 @@ known w finish es earlier o s h kept t many before begins c once tells range dra
       whole_acts = c.whole_acts;
       tells = left;
       once = λ k l. omega (arith, count_take (has_key k) (kept l) (log_at s l).records, count_log (has_key k) s.logs l, once.once k);
-      low = λ l. all_weaker (TellsOf s.desk.batches s.book.acts) (λ r. AllByRecursion (λ n. w.text.opening.next_bid ≤ n) (batch_bids r)) (left_in s kept l) (λ r p. record_low w s r range p) (left l);
-      low_acts = λ l. all_weaker (TellsOf s.desk.batches s.book.acts) (λ r. AllByRecursion (λ n. w.text.opening.next_tid ≤ n) (act_tids r)) (left_in s kept l) (λ r p. act_record_low w s r range p) (left l);
+      low = λ l. weaker (TellsOf s.desk.batches s.book.acts) (λ r. AllByRecursion (λ n. w.text.opening.next_bid ≤ n) (batch_bids r)) (left_in s kept l) (λ r p. record_low w s r range p) (left l);
+      low_acts = λ l. weaker (TellsOf s.desk.batches s.book.acts) (λ r. AllByRecursion (λ n. w.text.opening.next_tid ≤ n) (act_tids r)) (left_in s kept l) (λ r p. act_record_low w s r range p) (left l);
       range = λ l. all_range w s (left_in s kept l) range acts room (left l);
       bids = drawn.bids;
       apart = acts_apart w s drawn;

@@ -22,7 +22,7 @@ again law earlier o (x ∷ xs) h g =
 
 -- ---- what they answer
 
-results_at : (ds : List Done) → map (λ (x : PlacedResult). x.2) (map answer_at ds) ≡ map (λ d. d.result) ds
+pub results_at : (ds : List Done) → map (λ (x : PlacedResult). x.2) (map answer_at ds) ≡ map (λ d. d.result) ds
 results_at [] = refl
 results_at (d ∷ ds) = ap (λ z. d.result ∷ z) (results_at ds)
 

@@ -6,6 +6,7 @@ use Rattle.std.proofs.lemmas.Bool.{or_cases, and_parts, ltb-true}
 use Rattle.snap_base.specs.declared.ids.Tid.{Tid}
 use Rattle.snap_base.specs.declared.transactions.TxResult.{TxResult}
 use Rattle.snap_base.specs.declared.verdicts.Place.{Place}
+use Rattle.snap_base.proofs.Lists.{all_join, both_all}
 use Rattle.protocol.specs.Parts.{Pact}
 use Rattle.protocol.specs.Words.{value_of}
 use Rattle.protocol.specs.Verdicts.{pact_place, act_place}
@@ -17,7 +18,7 @@ use Rattle.protocol_theorems.proofs.Lemmas.{before_trans}
 use Rattle.snap_recover.specs.declared.openings.Kept.{Kept}
 use Rattle.snap_recover.specs.declared.openings.Kept.TheVariants as kept
 use Rattle.snap_recover.specs.Opening.{ComesBefore}
-use Rattle.snap_recover.proofs.Lists.{all_append, all_both, all_of_each, all_contains, contains_cases, contains_here, contains_there, contains_none, contains_left, contains_right}
+use Rattle.snap_recover.proofs.Lists.{all_of_each, all_contains, contains_cases, contains_here, contains_there, contains_none, contains_left, contains_right}
 use Rattle.log_set.specs.Told.{tids_of}
 use Rattle.recovery_laws.specs.Grown.{PlacedResult, answer_of, answer_at, batch_answers, answers_of}
 use Rattle.recovery_laws.proofs.InOrder.{Rises}
@@ -90,7 +91,7 @@ same_spots (x ∷ xs) (y ∷ ys) p q f g =
 
 pub spots_all : (P : Spot → Type 0) (ks : List Kept) → AllByRecursion (λ k. AllByRecursion P (answers_of k)) ks → AllByRecursion P (flat_map answers_of ks)
 spots_all P [] h = tt
-spots_all P (k ∷ ks) h = all_append P (answers_of k) (flat_map answers_of ks) h.0 (spots_all P ks h.1)
+spots_all P (k ∷ ks) h = all_join P (answers_of k) (flat_map answers_of ks) h.0 (spots_all P ks h.1)
 
 pub spot_there : (ks : List Kept) (zs : List Spot) (z : Spot) → Contains (map answers_of ks) zs → Contains zs z → Contains (flat_map answers_of ks) z
 spot_there [] zs z h m = absurd (contains_none zs h)
@@ -114,12 +115,12 @@ crosses (kept.Act t m c v) (kept.Act u n d w) (inr (e, inr (f, l))) = ((inr (ap 
 
 crosses_all : (k : Kept) (ks : List Kept) → AllByRecursion (ComesBefore k) ks → AllByRecursion (λ x. AllByRecursion (Lower x) (flat_map answers_of ks)) (answers_of k)
 crosses_all k [] h = all_of_each (λ x. AllByRecursion (Lower x) []) (answers_of k) (λ x. tt)
-crosses_all k (j ∷ js) h = all_both (λ x. AllByRecursion (Lower x) (answers_of j)) (λ x. AllByRecursion (Lower x) (flat_map answers_of js)) (λ x. AllByRecursion (Lower x) (flat_map answers_of (j ∷ js))) (answers_of k)
-    (λ x a b. all_append (Lower x) (answers_of j) (flat_map answers_of js) a b) (crosses k j h.0) (crosses_all k js h.1)
+crosses_all k (j ∷ js) h = both_all (λ x. AllByRecursion (Lower x) (answers_of j)) (λ x. AllByRecursion (Lower x) (flat_map answers_of js)) (λ x. AllByRecursion (Lower x) (flat_map answers_of (j ∷ js))) (answers_of k)
+    (λ x a b. all_join (Lower x) (answers_of j) (flat_map answers_of js) a b) (crosses k j h.0) (crosses_all k js h.1)
 
 spots_join : (xs ys : List Spot) → SpotsRise xs → SpotsRise ys → AllByRecursion (λ x. AllByRecursion (Lower x) ys) xs → SpotsRise (xs ++ ys)
 spots_join [] ys p q h = q
-spots_join (x ∷ xs) ys p q h = (all_append (Lower x) xs ys p.0 h.0, spots_join xs ys p.1 q h.1)
+spots_join (x ∷ xs) ys p q h = (all_join (Lower x) xs ys p.0 h.0, spots_join xs ys p.1 q h.1)
 
 pub spots_rise : (ks : List Kept) → Rises ks → AllByRecursion (λ k. SpotsRise (answers_of k)) ks → SpotsRise (flat_map answers_of ks)
 spots_rise [] r h = tt

@@ -4,10 +4,12 @@ use Rattle.std.specs.List.{AllByRecursion, list_any, flat_map}
 use Rattle.std.proofs.Common.{arith, sym, ap, subst, inl, inr, ◌∙◌, append_assoc}
 use Rattle.std.proofs.lemmas.Bool.{true≢false, or_cases, or_left, or_right, or_parts, and_parts, eqb-true, eq-eqb}
 use Rattle.std.proofs.lemmas.List.{append-nil}
+use Rattle.std.proofs.lemmas.List.Concat.{flat_map-append}
 use Rattle.snap_base.specs.declared.ids.ActorId.{ActorId}
 use Rattle.snap_base.specs.declared.ids.Bid.{Bid}
 use Rattle.snap_base.specs.declared.ids.Tid.{Tid}
 use Rattle.snap_base.specs.declared.transactions.State.{State}
+use Rattle.snap_base.proofs.Lists.{all_join}
 use Rattle.protocol.specs.Records as machine
 use Rattle.protocol.specs.Records.{LogRecord, is_info, is_complete, is_commit, is_prepare, is_act_commit}
 use Rattle.protocol.specs.Words as words
@@ -19,7 +21,7 @@ use Rattle.txn_records.specs.Records.{key, actor_numbers, tid_numbers}
 use Rattle.snap_recover.specs.Logs.{HasKey, all_of, tids_in, bids_in, commits_in, states_in, is_genesis, geneses}
 use Rattle.snap_recover.specs.Opening.{greatest}
 use Rattle.snap_recover.specs.Passes.{StateOver}
-use Rattle.snap_recover.proofs.Lists.{contains_here, contains_there, contains_cases, contains_none, all_append}
+use Rattle.snap_recover.proofs.Lists.{contains_here, contains_there, contains_cases, contains_none}
 use Rattle.snap_recover.proofs.Greatest.{greatest_of}
 use Rattle.snap_recover.proofs.StatesOver.{over_quiet, over_counts}
 use Rattle.log_set.specs.Told.{bid_of, tid_of, actor_of, tids_of, actors_of, told, all_told}
@@ -310,7 +312,7 @@ grown_genesis n (rs ∷ rss) logs =
 
 pub grown_all : (P : Record → Type 0) (n : ℕ) (earlier : List (List Record)) (logs : ℕ → List LogRecord) → AllByRecursion P (all_of earlier) → ((l : ℕ) → AllByRecursion P (all_told (logs l))) → AllByRecursion P (all_of (grown_from n earlier logs))
 grown_all P n [] logs h k = tt
-grown_all P n (rs ∷ rss) logs h k = all_append P (rs ++ all_told (logs n)) (all_of (grown_from (n + 1) rss logs)) (all_append P rs (all_told (logs n)) (Rattle.snap_recover.proofs.Lists.all_left P rs (all_of rss) h) (k n)) (grown_all P (n + 1) rss logs (Rattle.snap_recover.proofs.Lists.all_right P rs (all_of rss) h) k)
+grown_all P n (rs ∷ rss) logs h k = all_join P (rs ++ all_told (logs n)) (all_of (grown_from (n + 1) rss logs)) (all_join P rs (all_told (logs n)) (Rattle.snap_base.proofs.Lists.all_front P rs (all_of rss) h) (k n)) (grown_all P (n + 1) rss logs (Rattle.snap_base.proofs.Lists.all_back P rs (all_of rss) h) k)
 
 -- so many numbers from this one on, and the logs there
 pub all_from : (LogRecord → List ℕ) → (ℕ → List LogRecord) → ℕ → ℕ → List ℕ
@@ -343,10 +345,6 @@ from_join g logs n (suc k) =
     let i : suc k + 1 ≡ suc (k + 1) = omega arith in
     ap (all_from g logs n) i ∙ (ap (λ z. flat_map g (logs n) ++ z) (from_join g logs (n + 1) k ∙ ap (λ z. all_from g logs (n + 1) k ++ flat_map g (logs z)) e) ∙ sym (append_assoc (flat_map g (logs n)) (all_from g logs (n + 1) k) (flat_map g (logs (n + suc k)))))
 
-flat_join : {X Y : Type 0} (f : X → List Y) (xs ys : List X) → flat_map f (xs ++ ys) ≡ flat_map f xs ++ flat_map f ys
-flat_join f [] ys = refl
-flat_join f (x ∷ xs) ys = ap (λ z. f x ++ z) (flat_join f xs ys) ∙ sym (append_assoc (f x) (flat_map f xs) (flat_map f ys))
-
 pub from_below : (g : LogRecord → List ℕ) (logs : ℕ → List LogRecord) (n : ℕ) → all_from g logs 0 n ≡ flat_map (λ l. flat_map g (logs l)) (words.below n)
 unfolding all_from
 from_below g logs zero = refl
@@ -354,7 +352,7 @@ from_below g logs (suc n) =
     let i : suc n ≡ n + 1 = omega arith in
     let e : 0 + n ≡ n = omega arith in
     ap (all_from g logs 0) i ∙ (from_join g logs 0 n ∙ (ap (λ z. all_from g logs 0 n ++ flat_map g (logs z)) e ∙ (ap (λ z. z ++ flat_map g (logs n)) (from_below g logs n)
-    ∙ sym (flat_join (λ l. flat_map g (logs l)) (words.below n) (n ∷ []) ∙ ap (λ z. flat_map (λ l. flat_map g (logs l)) (words.below n) ++ z) (append-nil (flat_map g (logs n)))))))
+    ∙ sym (flat_map-append (λ l. flat_map g (logs l)) (words.below n) (n ∷ []) ∙ ap (λ z. flat_map (λ l. flat_map g (logs l)) (words.below n) ++ z) (append-nil (flat_map g (logs n)))))))
 
 pub greatest_written : (g : LogRecord → List ℕ) (logs : ℕ → List LogRecord) (n : ℕ) → greatest (all_from g logs 0 n) ≡ words.greatest (flat_map (λ l. flat_map g (logs l)) (words.below n))
 greatest_written g logs n = same_greatest (all_from g logs 0 n) ∙ ap words.greatest (from_below g logs n)

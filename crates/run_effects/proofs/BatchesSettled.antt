@@ -1,5 +1,5 @@
 -- The settled batches, counted along a run.
-use Rattle.std.specs.Prelude.{◌≡◌, refl, ℕ, ◌+◌, ◌<◌, ◌==◌, not, Bool, true, false, if◌then◌else◌, Option, Some, None, List, [], ◌∷◌, ◌++◌, length, filter, map}
+use Rattle.std.specs.Prelude.{◌≡◌, refl, ℕ, ◌+◌, ◌<◌, ◌==◌, not, Bool, true, false, if◌then◌else◌, Some, List, [], ◌∷◌, ◌++◌, length, filter, map}
 use Rattle.std.proofs.Common.{arith, sym, ap, ◌∙◌}
 use Rattle.std.proofs.lemmas.Bool.{eqb-true, and_parts, true≢false}
 use Rattle.std.proofs.lemmas.List.{map-append}
@@ -14,6 +14,7 @@ use Rattle.protocol.specs.OnRing.{planned}
 use Rattle.protocol.specs.Parts.{Batch, Formed, Committing, Settled, Machine, Stage}
 use Rattle.protocol.specs.Runs.{opening, reached, state_after, EachAllowed, IsRun}
 use Rattle.protocol.specs.Words.{batch_of, count, holds, is_committing, is_formed, is_open, is_settled}
+use Rattle.protocol_records.proofs.recording.RecordsTold.{holds_weaker}
 use Rattle.run_effects.specs.Laws.{settles}
 
 -- what an event may not change is the same after it
@@ -90,10 +91,6 @@ one_changes k st n next (b ∷ bs) h o = by (b.bid == k) refl o (one_changes k s
     by true e i r = omega (arith, one_settled b bs, not_settled b.stage i, one_settled (with_stage st b) (changed_batch k (with_stage st) bs), others_stay k (with_stage st) (n + 1) next bs h.1 (omega (arith, h.0, eqb-true b.bid k e)))
     by false e i r = omega (arith, one_settled b bs, one_settled b (changed_batch k (with_stage st) bs), r i)
 
-weaker : {X : Type 0} (p q : X → Bool) (o : Option X) → ((x : X) → p x ≡ true → q x ≡ true) → holds p o ≡ true → holds q o ≡ true
-weaker p q None k h = h
-weaker p q (Some x) k h = k x h
-
 formed_not_settled : (st : Stage) → is_formed st ≡ true → not (is_settled st) ≡ true
 formed_not_settled Formed h = refl
 formed_not_settled Committing h = refl
@@ -119,8 +116,8 @@ stays_numbered w e s frame ok h = rw (frame w e s NextBid refl, frame w e s Bids
 counts_on : {C : Type 0} (w : Fixed C) (e : Event) (s : Machine C) → Frames C → IsAllowed w e s → Numbered w s → settled_in (after w e s).desk.batches ≡ settled_in s.desk.batches + settles (e ∷ [])
 unfolding Numbered conditions after
 counts_on w (Form k) s frame ok h = let f = planned w.text k s.ring in let b = new_batch f.bid f.actors f.pacts in omega (arith, settled_join s.desk.batches (b ∷ []), one_formed b refl)
-counts_on w (Commit k) s frame ok h = one_changes k Committing w.text.opening.next_bid s.ring.next_bid s.desk.batches h (weaker _ (λ b. not (is_settled b.stage)) (batch_of k s.desk.batches) (λ b p. formed_not_settled b.stage (and_parts (is_formed b.stage) (not b.aborted) (and_parts (is_open b) _ p).0).0) ok.0)
-counts_on w (Settle k) s frame ok h = one_changes k Settled w.text.opening.next_bid s.ring.next_bid s.desk.batches h (weaker _ (λ b. not (is_settled b.stage)) (batch_of k s.desk.batches) (λ b p. committing_not_settled b.stage (and_parts (is_committing b.stage) (not b.aborted) p).0) ok.0)
+counts_on w (Commit k) s frame ok h = one_changes k Committing w.text.opening.next_bid s.ring.next_bid s.desk.batches h (holds_weaker _ (λ b. not (is_settled b.stage)) (batch_of k s.desk.batches) (λ b p. formed_not_settled b.stage (and_parts (is_formed b.stage) (not b.aborted) (and_parts (is_open b) _ p).0).0) ok.0)
+counts_on w (Settle k) s frame ok h = one_changes k Settled w.text.opening.next_bid s.ring.next_bid s.desk.batches h (holds_weaker _ (λ b. not (is_settled b.stage)) (batch_of k s.desk.batches) (λ b p. committing_not_settled b.stage (and_parts (is_committing b.stage) (not b.aborted) p).0) ok.0)
 counts_on w e s frame ok h = settled_stages (after w e s).desk.batches s.desk.batches (frame w e s Stages refl) ∙ plus_0 (settled_in s.desk.batches)
   where
     plus_0 : (n : ℕ) → n ≡ n + 0

@@ -2,7 +2,7 @@
 use Rattle.std.specs.Prelude.{◌≡◌, refl, ℕ, zero, suc, ◌%◌, ◌≤◌, ◌==◌, nat_lt, Bool, true, false, if◌then◌else◌, List, [], ◌∷◌, ◌++◌, length, take, drop, replicate, slice_get, slice_index_or, slice_set}
 use Rattle.std.proofs.Common.{arith, sym, ap, subst, ◌∙◌}
 use Rattle.std.proofs.lemmas.Bool.{eqb-true, eqb-false, true≢false}
-use Rattle.std.proofs.lemmas.List.{append-nil, map-append, take-append-drop, take-append-le}
+use Rattle.std.proofs.lemmas.List.{append-nil, map-append, take-append-drop, take-append-le, append_assoc}
 use Rattle.std.proofs.lemmas.List.Concat.{flat_map-cons}
 use Rattle.std.proofs.lemmas.Grind.{flat_map-append}
 use Rattle.std.proofs.Math.Seq.{take-length}
@@ -18,13 +18,12 @@ use Rattle.record_log.specs.Growth.{all_records}
 use Rattle.log_set.specs.Told.{told, all_told}
 use Rattle.txn_records.specs.declared.records.Record.{Record}
 use Rattle.run_effects.specs.Groups.{waiting, durable, group_by, groups_from, groups_of}
-use Rattle.run_effects.proofs.RunsLonger.{assoc}
 
 -- ---- one more event
 
 pub groups_longer : {C : Type 0} (w : Fixed C) (l : ℕ) (es : List Event) (e : Event) (s : Machine C) → groups_from w l (es ++ e ∷ []) s ≡ groups_from w l es s ++ group_by l e (state_after w es s)
 groups_longer w l [] e s = append-nil (group_by l e s)
-groups_longer w l (d ∷ es) e s = ap (λ gs. group_by l d s ++ gs) (groups_longer w l es e (after w d s)) ∙ sym (assoc (group_by l d s) (groups_from w l es (after w d s)) (group_by l e (state_after w es (after w d s))))
+groups_longer w l (d ∷ es) e s = ap (λ gs. group_by l d s ++ gs) (groups_longer w l es e (after w d s)) ∙ sym (append_assoc (group_by l d s) (groups_from w l es (after w d s)) (group_by l e (state_after w es (after w d s))))
 
 -- ---- one log
 
@@ -59,7 +58,7 @@ set_there [] l g h = absurd (true≢false (sym h))
 set_there (x ∷ gs) zero g h = refl
 set_there (x ∷ gs) (suc l) g h = set_there gs l g h
 
-set_elsewhere : (gs : List Log) (k l : ℕ) (g : Log) → (k ≡ l → ⊥) → slice_index_or (slice_set gs k g) l no_log ≡ slice_index_or gs l no_log
+pub set_elsewhere : (gs : List Log) (k l : ℕ) (g : Log) → (k ≡ l → ⊥) → slice_index_or (slice_set gs k g) l no_log ≡ slice_index_or gs l no_log
 set_elsewhere [] k l g h = refl
 set_elsewhere (x ∷ gs) zero zero g h = absurd (h refl)
 set_elsewhere (x ∷ gs) zero (suc l) g h = refl
@@ -116,7 +115,7 @@ run_went w l (e ∷ es) s run h =
     let one = event_went w l e s run.0 h in
     let rest = run_went w l es (after w e s) run.1 one.within in
     ap (λ rs. durable (log_at s l) ++ rs) (flat_map-append (λ (g : List Record). g) (group_by l e s) (groups_from w l es (after w e s)))
-    ∙ (sym (assoc (durable (log_at s l)) (all_records (group_by l e s)) (all_records (groups_from w l es (after w e s))))
+    ∙ (sym (append_assoc (durable (log_at s l)) (all_records (group_by l e s)) (all_records (groups_from w l es (after w e s))))
     ∙ (ap (λ rs. rs ++ all_records (groups_from w l es (after w e s))) (sym one.is) ∙ rest))
 
 nothing_there : (n l : ℕ) → slice_index_or (replicate n no_log) l no_log ≡ no_log

@@ -1,6 +1,7 @@
 -- Each group of a run waited at some moment of it.
 use Rattle.std.proofs.Common.{◌≡◌, ℕ, ◌==◌, Bool, true, false, if◌then◌else◌, List, [], ◌∷◌, ◌++◌, refl, sym, subst, append-nil}
 use Rattle.std.specs.List.{AllByRecursion}
+use Rattle.std.proofs.lemmas.List.{append_assoc}
 use Rattle.protocol.specs.Effects.{after, log_at}
 use Rattle.protocol.specs.Events.{Event, Sync}
 use Rattle.protocol.specs.Fixed.{Fixed}
@@ -8,7 +9,7 @@ use Rattle.protocol.specs.Parts.{Machine}
 use Rattle.protocol.specs.Runs.{opening, reached, IsRun}
 use Rattle.txn_records.specs.declared.records.Record.{Record}
 use Rattle.run_effects.proofs.Elements.{all_join}
-use Rattle.run_effects.proofs.RunsLonger.{allowed_parts, assoc, state_longer}
+use Rattle.run_effects.proofs.RunsLonger.{allowed_parts, state_longer}
 use Rattle.run_effects.specs.Groups.{waiting, group_by, groups_from, groups_of, group_behind}
 use Rattle.run_effects.specs.Sizes.{groups_and_waiting, AlwaysWaits}
 
@@ -25,7 +26,7 @@ behind_waited P w l ds [] run are = tt
 behind_waited P w l ds (e ∷ es) run are =
     let s = reached w ds in
     let here = event_waited P l e s (are ds (e ∷ es) refl (allowed_parts w ds (e ∷ es) (opening w) run).0) in
-    let same = sym (assoc ds (e ∷ []) es) in
+    let same = sym (append_assoc ds (e ∷ []) es) in
     let later = behind_waited P w l (ds ++ e ∷ []) es (subst (λ fs. IsRun w fs) same run) (subst (λ fs. AlwaysWaits w l fs P) same are) in
     all_join P (group_by l e s) (groups_from w l es (after w e s)) here (subst (λ t. AllByRecursion P (groups_from w l es t)) (state_longer w ds (e ∷ []) (opening w)) later)
 

@@ -1,5 +1,5 @@
 -- Pieces of a list of bytes that is written bit by bit.
-use Rattle.std.proofs.Common.{◌≡◌, ℕ, ◌+◌, ◌-◌, List, ◌++◌, length, take, drop, sym, ap, ◌∙◌, Result, Ok, Err, OnErr}
+use Rattle.std.proofs.Common.{◌≡◌, ℕ, ◌+◌, ◌-◌, List, ◌++◌, length, take, drop, sym, ap, ◌∙◌}
 use Rattle.std.proofs.lemmas.List.{length-drop}
 use Rattle.std.proofs.Math.Seq.{take-add, take-length}
 
@@ -10,8 +10,3 @@ take_rest bytes at = ap (λ n. take n (drop at bytes)) (sym (length-drop at byte
 -- n more of them
 pub take_on : (bytes : List ℕ) (at n : ℕ) → take at bytes ++ take n (take (length bytes - at) (drop at bytes)) ≡ take (at + n) bytes
 take_on bytes at n = ap (λ l. take at bytes ++ take n l) (take_rest bytes at) ∙ sym (take-add at n bytes)
-
--- what holds anyhow holds of an error
-pub on_any_err : {T E : Type 0} (P : Type 0) (r : Result T E) → P → OnErr r P
-on_any_err P (Ok x) p = tt
-on_any_err P (Err e) p = p

@@ -2,6 +2,7 @@
 use Rattle.std.proofs.Common.{◌≡◌, ℕ, zero, suc, ◌+◌, ◌*◌, ◌^◌, ◌≤◌, ◌==◌, Bool, true, false, if◌then◌else◌, List, [], ◌∷◌, length, take, drop, slice_index_or, refl, ap, arith}
 use Rattle.std.proofs.lemmas.List.{length-append, length-map, take-append-drop}
 use Rattle.std.specs.List.{AllByRecursion}
+use Rattle.snap_base.proofs.Lists.{all_front, all_back}
 use Rattle.protocol.specs.Effects.{after, log_at, no_log}
 use Rattle.protocol.specs.Events.{Event, Sync}
 use Rattle.protocol.specs.Fixed.{Fixed}
@@ -20,7 +21,6 @@ use Rattle.run_effects.specs.Groups.{waiting, durable, group_by, groups_from, gr
 use Rattle.run_effects.specs.Laws.{GroupsAreDurable}
 use Rattle.run_effects.specs.Sizes.{LogsAreFew, groups_and_waiting, AlwaysWaits, AllGroupsFit, WaitingFits}
 use Rattle.run_effects.proofs.GroupsWaited.{groups_waited}
-use Rattle.run_effects.proofs.Elements.{all_left, all_right}
 use Rattle.run_effects.proofs.GroupSizes.{IsShort, told_short, bytes_each, short_may, way, way_is, way_none, way_on, way_join, groups_end, groups_may}
 
 -- ---- records
@@ -95,8 +95,8 @@ groups_fit law few ends durable_is w finish es facts text run l end are low =
     let all = short_way few ends durable_is w finish es facts text run l in
     let are_short : AlwaysWaits w l es (AllByRecursion IsShort) = λ ds rest parts front. told_short law (drop (log_at (reached w ds) l).synced (log_at (reached w ds) l).records) (are ds rest parts front) in
     let are_all = groups_waited (AllByRecursion IsShort) w l es run are_short in
-    let are_got = all_left (AllByRecursion IsShort) got (behind ∷ []) are_all in
-    let are_behind = (all_right (AllByRecursion IsShort) got (behind ∷ []) are_all).0 in
+    let are_got = all_front (AllByRecursion IsShort) got (behind ∷ []) are_all in
+    let are_behind = (all_back (AllByRecursion IsShort) got (behind ∷ []) are_all).0 in
     let gone = groups_end end got are_got in
     let every = groups_end end (groups_and_waiting w l es) are_all in
     let joined = way_join got (behind ∷ []) in

@@ -2,8 +2,8 @@
 use Rattle.std.specs.Prelude.{◌≡◌, refl, ℕ, ℤ, zero, suc, ◌%◌, ◌==◌, Bool, true, false, if◌then◌else◌, Option, Some, None, List, [], ◌∷◌, ◌++◌, length, drop, take, map, replicate, slice_set}
 use Rattle.std.specs.List.{AllByRecursion}
 use Rattle.std.proofs.Common.{arith, sym, subst}
-use Rattle.std.proofs.lemmas.Bool.{eqb-true}
 use Rattle.std.proofs.lemmas.List.Concat.{flat_map-cons}
+use Rattle.snap_base.proofs.Lists.{all_get, all_front, all_back, all_take, all_drop}
 use Rattle.core_facts.specs.RowsMay.{IsActRecord, RowsMay}
 use Rattle.protocol.specs.Conditions.{IsAllowed}
 use Rattle.protocol.specs.Effects.{act_commit, added, after, ascending, cell_at, log_at, no_log, synced}
@@ -14,13 +14,14 @@ use Rattle.protocol.specs.Parts.{Act, Log, Machine}
 use Rattle.protocol.specs.Records.{LogRecord, ActDone}
 use Rattle.protocol.specs.Runs.{EachAllowed, IsRun, opening, reached, state_after}
 use Rattle.protocol.specs.Words.{act_of, batch_of, is_value, value_of, values_of}
+use Rattle.protocol_laws.proofs.first.PairsFound.{found_tid}
 use Rattle.record_log.specs.Growth.{all_records}
 use Rattle.log_set.specs.Told.{actor_of, actors_of, all_told, bid_of, tids_of, told}
 use Rattle.txn_records.specs.declared.records.Record.{Record}
 use Rattle.txn_records.specs.Records.{IsRecord, actor_numbers, tid_numbers}
 use Rattle.run_effects.specs.Groups.{durable, groups_of}
 use Rattle.run_effects.specs.Recorded.{AreRecords, GroupsHoldRecords}
-use Rattle.run_effects.proofs.Elements.{If, all_at, all_drop, all_found, all_join, all_left, all_right, all_set, all_take}
+use Rattle.run_effects.proofs.Elements.{If, all_found, all_join, all_set}
 use Rattle.run_effects.proofs.RunsLonger.{allowed_longer, state_longer}
 use Rattle.run_effects.proofs.StatesKept.{Keeps, LeavesStates, CellKeeps, event_keeps, none_keeps, opening_keeps}
 use Rattle.run_effects.proofs.ResultsFit.{ActFits, Frames, ResultsFit, results_stay, value_fits, values_fit}
@@ -37,7 +38,7 @@ LogsHold s = AllByRecursion LogHolds s.logs
 
 log_here : {C : Type 0} (s : Machine C) (l : ℕ) → LogsHold s → AllByRecursion IsTold (log_at s l).records
 unfolding LogsHold LogHolds
-log_here s l h = all_at LogHolds s.logs l no_log tt h
+log_here s l h = all_get LogHolds s.logs l no_log tt h
 
 one_more : {C : Type 0} (s : Machine C) (l : ℕ) (rs : List LogRecord) → AllByRecursion IsTold rs → LogsHold s → AllByRecursion LogHolds (slice_set s.logs l (added rs (log_at s l)))
 unfolding LogsHold LogHolds
@@ -68,14 +69,6 @@ act_is t m c v actors h fits = record {
   ascend = rw (numbers_back actors) h.ascend;
 }
 
-found_tid : (t : ℕ) (xs : List Act) (x : Act) → act_of t xs ≡ Some x → x.tid ≡ t
-found_tid t [] x e = absurd (cc e)
-found_tid t (y ∷ ys) x e = by (y.tid == t) refl e (found_tid t ys x)
-  where
-    by : (b : Bool) → (y.tid == t) ≡ b → (if b then Some y else act_of t ys) ≡ Some x → (act_of t ys ≡ Some x → x.tid ≡ t) → x.tid ≡ t
-    by true q i k = let same : y ≡ x = cc i in subst (λ z. z.tid ≡ t) same (eqb-true y.tid t q)
-    by false q i k = k i
-
 decided_is : (t c : ℕ) (acts : List Act) → AllByRecursion ActFits acts → ((x : Act) → act_of t acts ≡ Some x → IsActRecord t x.m c (ascending (map (λ p. p.actor) x.places))) → AllByRecursion IsTold (act_commit c (act_of t acts))
 unfolding IsTold
 decided_is t c acts fit h = by (act_of t acts) refl (all_found ActFits (λ x. x.tid == t) acts fit)
@@ -95,12 +88,12 @@ unfolding LogsHold LogHolds IsTold after
 event_tells w Met (Form k) s ok may kept fit h =
     one_more s (k % w.text.logs) _ (may.tells_info k ok (bid_of k) (actors_of (next_actors w.text s.ring)) (tids_of (map (λ p. p.tid) (next_pacts w.text s.ring))) refl (numbers_back (next_actors w.text s.ring)) (tids_back (map (λ p. p.tid) (next_pacts w.text s.ring))), tt) h
 event_tells w Met (Complete k a) s ok may kept fit h =
-    one_more s (a % w.text.logs) _ (may.tells_complete k a ok (bid_of k) (actor_of a) (cell_at s a).state refl refl (all_at (CellKeeps Met) s.cells a _ (none_keeps Met) kept.cells).state, tt) h
+    one_more s (a % w.text.logs) _ (may.tells_complete k a ok (bid_of k) (actor_of a) (cell_at s a).state refl refl (all_get (CellKeeps Met) s.cells a _ (none_keeps Met) kept.cells).state, tt) h
 event_tells w Met (Sync l) s ok may kept fit h = all_set LogHolds s.logs l (synced (log_at s l)) (log_here s l h) h
 event_tells w Met (Commit k) s ok may kept fit h = one_more s (k % w.text.logs) _ (may.tells_commit k ok (bid_of k) (values_of (batch_of k s.desk.batches)) refl refl (values_fit s k fit), tt) h
 event_tells w Met (Prepare t a) s ok may kept fit h =
     let fits = may.tells_prepare t a ok in
-    one_more s (a % w.text.logs) _ (record { tid_fits = omega (arith, fits.0); actor_fits = fits.1; is_state = (all_at (CellKeeps Met) s.cells a _ (none_keeps Met) kept.cells).state }, tt) h
+    one_more s (a % w.text.logs) _ (record { tid_fits = omega (arith, fits.0); actor_fits = fits.1; is_state = (all_get (CellKeeps Met) s.cells a _ (none_keeps Met) kept.cells).state }, tt) h
 event_tells w Met (Decide t) s ok may kept fit h = one_more s (t % w.text.logs) _ (decided_is t s.book.next_c s.book.acts fit.acts (λ x e. may.tells_act t x ok e)) h
 event_tells w Met _ s ok may kept fit h = h
 
@@ -137,7 +130,7 @@ each_group : (groups : List (List Record)) → AreRecords (all_records groups) �
 each_group [] h = tt
 each_group (group ∷ groups) h =
     let are : AreRecords (group ++ all_records groups) = subst AreRecords (flat_map-cons (λ (g : List Record). g) group groups) h in
-    (all_left IsRecord group (all_records groups) are, each_group groups (all_right IsRecord group (all_records groups) are))
+    (all_front IsRecord group (all_records groups) are, each_group groups (all_back IsRecord group (all_records groups) are))
 
 pub groups_hold : {C : Type 0} (w : Fixed C) (Met : C → Type 0) (es : List Event) (l : ℕ) → Frames w → LeavesStates w Met → ((es : List Event) → IsRun w es → RowsMay w (reached w es)) → IsRun w es
     → all_records (groups_of w l es) ≡ durable (log_at (reached w es) l) → GroupsHoldRecords w es l

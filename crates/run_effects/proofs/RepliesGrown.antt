@@ -1,11 +1,11 @@
 -- The answers of a run: a verdict that was told stays, so one more event leaves them.
-use Rattle.std.specs.Prelude.{◌≡◌, refl, ℕ, ◌+◌, not, Bool, true, false, Option, Some, None, is_some, List, [], ◌∷◌, ◌++◌, length, filter, map, if◌then◌else◌}
-use Rattle.std.proofs.Common.{arith, sym, ap, subst, ◌∙◌}
-use Rattle.std.proofs.lemmas.Bool.{true≢false}
-use Rattle.std.proofs.lemmas.List.{append-nil, map-append}
+use Rattle.std.specs.Prelude.{◌≡◌, refl, ℕ, ◌+◌, not, Bool, true, false, Some, List, [], ◌∷◌, ◌++◌, length, map, if◌then◌else◌}
+use Rattle.std.proofs.Common.{sym, ap, subst, ◌∙◌}
+use Rattle.std.proofs.lemmas.List.{append-nil, map-append, append_assoc}
 use Rattle.std.proofs.lemmas.Grind.{flat_map-append}
 use Rattle.std.proofs.lemmas.List.Concat.{flat_map-cons}
 use Rattle.snap_base.specs.declared.verdicts.Verdict.{Verdict}
+use Rattle.snap_base.proofs.Options.{somebody}
 use Rattle.protocol.specs.Conditions.{IsAllowed, conditions}
 use Rattle.protocol.specs.Effects.{after}
 use Rattle.protocol.specs.Events.{Event, Reply}
@@ -16,27 +16,24 @@ use Rattle.protocol.specs.Report.{Answer, answer, answers, is_committed, replied
 use Rattle.protocol.specs.Runs.{opening, reached, EachAllowed, IsRun}
 use Rattle.protocol.specs.Verdicts.{verdict}
 use Rattle.protocol.specs.Words.{count, holds}
+use Rattle.protocol_theorems.proofs.quiet.SubPlaces.{count_join}
 use Rattle.protocol_verdicts.specs.Evidence.{VerdictsStay}
 use Rattle.run_effects.specs.Replies.{answer_by, commits_of, aborts_of, CountsGrow}
 use Rattle.run_effects.specs.Laws.{line_by}
 use Rattle.run_effects.specs.Lines.{verdict_line, line_in, answer_lines, replies_text}
-use Rattle.run_effects.proofs.RunsLonger.{state_longer, assoc}
+use Rattle.run_effects.proofs.RunsLonger.{state_longer}
 
 -- ---- who was answered
 
-replied_join : (es fs : List Event) → replied (es ++ fs) ≡ replied es ++ replied fs
+pub replied_join : (es fs : List Event) → replied (es ++ fs) ≡ replied es ++ replied fs
 replied_join [] fs = refl
 replied_join (Reply n ∷ es) fs = ap (λ ns. n ∷ ns) (replied_join es fs)
 replied_join (_ ∷ es) fs = replied_join es fs
 
-known : {X : Type 0} (o : Option X) → is_some o ≡ true → (x : X) × (o ≡ Some x)
-known None h = absurd (true≢false (sym h))
-known (Some x) h = (x, refl)
-
 -- who is answered has a verdict
 has_verdict : {C : Type 0} (w : Fixed C) (n : ℕ) (s : Machine C) → IsAllowed w (Reply n) s → (v : Verdict) × (verdict n s.book s.desk ≡ Some v)
 unfolding conditions
-has_verdict w n s ok = known (verdict n s.book s.desk) ok.1.0
+has_verdict w n s ok = somebody (verdict n s.book s.desk) ok.1.0
 
 -- ---- answers stay
 
@@ -50,7 +47,7 @@ same_answer n v s t e f = rw (e, f) refl
 same_answers : {C : Type 0} (w : Fixed C) (es : List Event) (s t : Machine C) → StaysIn w es s → StaysIn w es t → (front later : List Event) → es ≡ front ++ later → EachAllowed w later (reached w front)
     → map (answer s) (replied later) ≡ map (answer t) (replied later)
 same_answers {C} w es s t p q front [] e run = refl
-same_answers {C} w es s t p q front (d ∷ later) e run = one d e run.0 (same_answers w es s t p q (front ++ d ∷ []) later (e ∙ sym (assoc front (d ∷ []) later)) (subst (EachAllowed w later) (sym (state_longer w front (d ∷ []) (opening w))) run.1))
+same_answers {C} w es s t p q front (d ∷ later) e run = one d e run.0 (same_answers w es s t p q (front ++ d ∷ []) later (e ∙ sym (append_assoc front (d ∷ []) later)) (subst (EachAllowed w later) (sym (state_longer w front (d ∷ []) (opening w))) run.1))
   where
     one : (d : Event) → es ≡ front ++ d ∷ later → IsAllowed w d (reached w front) → map (answer s) (replied later) ≡ map (answer t) (replied later) → map (answer s) (replied (d ∷ later)) ≡ map (answer t) (replied (d ∷ later))
     one (Reply n) e ok rest =
@@ -67,7 +64,7 @@ pub answers_grow : {C : Type 0} (w : Fixed C) (es : List Event) (e : Event) → 
     → answers (es ++ e ∷ []) (reached w (es ++ e ∷ [])) ≡ answers es (reached w es) ++ answer_by (reached w es) e
 answers_grow w es e run now later =
     let t = reached w (es ++ e ∷ []) in
-    let stays : StaysIn w es t = λ front rest i n v h. later front (rest ++ e ∷ []) (ap (λ z. z ++ e ∷ []) i ∙ assoc front rest (e ∷ [])) n v h in
+    let stays : StaysIn w es t = λ front rest i n v h. later front (rest ++ e ∷ []) (ap (λ z. z ++ e ∷ []) i ∙ append_assoc front rest (e ∷ [])) n v h in
     let is : t ≡ after w e (reached w es) = state_longer w es (e ∷ []) (opening w) in
     ap (map (answer t)) (replied_join es (e ∷ []))
     ∙ (map-append (answer t) (replied es) (replied (e ∷ []))
@@ -95,14 +92,6 @@ count_one p x = by (p x)
     by : (b : Bool) → length (if b then x ∷ [] else []) ≡ one_if b
     by true = refl
     by false = refl
-
-count_join : {X : Type 0} (p : X → Bool) (xs ys : List X) → count p (xs ++ ys) ≡ count p xs + count p ys
-count_join p [] ys = omega arith
-count_join p (x ∷ xs) ys = by (p x) (count_join p xs ys)
-  where
-    by : (b : Bool) → count p (xs ++ ys) ≡ count p xs + count p ys → length (if b then x ∷ filter p (xs ++ ys) else filter p (xs ++ ys)) ≡ length (if b then x ∷ filter p xs else filter p xs) + count p ys
-    by true h = omega (arith, h)
-    by false h = h
 
 committed_is : {C : Type 0} (s : Machine C) (e : Event) → count (λ x. holds is_committed x.verdict) (answer_by s e) ≡ commits_of s e
 committed_is s (Reply n) = count_one (λ x. holds is_committed x.verdict) (answer s n)

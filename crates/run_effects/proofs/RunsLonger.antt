@@ -19,7 +19,3 @@ allowed_longer w (d ∷ es) e s run ok = (run.0, allowed_longer w es e (after w 
 pub allowed_parts : {C : Type 0} (w : Fixed C) (es fs : List Event) (s : Machine C) → EachAllowed w (es ++ fs) s → EachAllowed w es s × EachAllowed w fs (state_after w es s)
 allowed_parts w [] fs s run = (tt, run)
 allowed_parts w (e ∷ es) fs s run = let p = allowed_parts w es fs (after w e s) run.1 in ((run.0, p.0), p.1)
-
-pub assoc : {X : Type 0} (xs ys zs : List X) → (xs ++ ys) ++ zs ≡ xs ++ (ys ++ zs)
-assoc [] ys zs = refl
-assoc (x ∷ xs) ys zs = rw (assoc xs ys zs) refl

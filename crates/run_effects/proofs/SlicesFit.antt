@@ -12,10 +12,10 @@ use Rattle.aml_resume.specs.Places.{Standing}
 use Rattle.aml_resume.specs.Pausing.{Pause, Through, Returned, Calling, Failed}
 use Rattle.snap_base.specs.declared.next.Next.{Next}
 use Rattle.snap_base.specs.declared.next.Next.TheVariants.{Go, Ended}
+use Rattle.snap_base.proofs.Lists.{all_push}
 use Rattle.aml_slice.specs.Controls.{Frame, Rest, progress_in, most_waiting, moves_left}
 use Rattle.aml_slice.specs.Slicing.{Move, To, Out, SliceEnd, returned, unless_refused, called_on, moved_by, move, after_move, slice_end_in, slice_end}
 use Rattle.txn_records.specs.Records.{IsState}
-use Rattle.run_effects.proofs.Elements.{all_push}
 use Rattle.run_effects.proofs.ValuesFit.{Has, Fits, AllFit, nought_fits, method_small}
 use Rattle.run_effects.proofs.StatesKept.{ResultFits}
 use Rattle.run_effects.proofs.PausesFit.{FitPause, method_fit}

@@ -4,6 +4,7 @@ use Rattle.std.specs.List.{AllByRecursion}
 use Rattle.snap_base.specs.declared.transactions.State.{State}
 use Rattle.snap_base.specs.declared.transactions.TxResult.{TxResult}
 use Rattle.snap_base.specs.declared.transactions.TxResult.TheVariants.{Value, Fail}
+use Rattle.snap_base.proofs.Lists.{all_filter, all_get}
 use Rattle.txn_records.specs.Records.{IsState}
 use Rattle.protocol.specs.Effects.{after, cell_at, no_cell}
 use Rattle.protocol.specs.Events.{Event, Form, Admit, Arrive, Ask, Take, Run, Send, End, Close, Complete, Rollback, DropControl, Finish, Trim}
@@ -14,7 +15,7 @@ use Rattle.protocol.specs.OnRing as ring
 use Rattle.protocol.specs.Parts.{Act, Cell, ControlMessage, Image, Machine, OfAct, OfBatch, Outcome, Pact, Waiting, Who}
 use Rattle.protocol.specs.Runs.{new_cell, opening}
 use Rattle.protocol.specs.Words.{act_of, control_of, image_of, outcome_of, waiting_of}
-use Rattle.run_effects.proofs.Elements.{If, all_at, all_filter, all_found, all_join, all_set}
+use Rattle.run_effects.proofs.Elements.{If, all_found, all_join, all_set}
 use Rattle.run_effects.proofs.ValuesFit.{Fits, noughts_fit}
 
 -- ---- what is kept
@@ -130,7 +131,7 @@ left_keeps Met t x c h = record {
 -- ---- an event
 
 pub here : {C : Type 0} (Met : C → Type 0) (s : Machine C) (a : ℕ) → Keeps Met s → CellKeeps Met (cell_at s a)
-here Met s a h = all_at (CellKeeps Met) s.cells a no_cell (none_keeps Met) h.cells
+here Met s a h = all_get (CellKeeps Met) s.cells a no_cell (none_keeps Met) h.cells
 
 -- one cell becomes another one
 one : {C : Type 0} (Met : C → Type 0) (s : Machine C) (a : ℕ) (c : Cell C) → CellKeeps Met c → Keeps Met s → AllByRecursion (CellKeeps Met) (slice_set s.cells a c)

@@ -1,38 +1,16 @@
 -- How many bytes a record of the machine takes.
-use Rattle.std.proofs.Common.{◌≡◌, ℕ, ℤ, ◌+◌, ◌*◌, ◌≤◌, List, [], ◌∷◌, ◌++◌, length, refl, ◌∙◌, ap, arith}
+use Rattle.std.proofs.Common.{◌≡◌, ℕ, ℤ, ◌+◌, ◌≤◌, List, ◌++◌, length, arith}
 use Rattle.std.proofs.lemmas.List.{length-append}
 use Rattle.std.specs.Int.{to_be_bytes, w16}
-use Rattle.std.specs.List.{flat_map}
 use Rattle.snap_base.specs.declared.ids.ActorId.{ActorId}
 use Rattle.snap_base.specs.declared.ids.Bid.{Bid}
 use Rattle.snap_base.specs.declared.ids.Tid.{Tid}
 use Rattle.snap_base.specs.declared.transactions.State.{State}
 use Rattle.protocol.specs.Records.{LogRecord, BatchInfo, BatchComplete, BatchDone, ActPrepare, ActDone}
 use Rattle.txn_records.specs.Records.{field_bytes, state_bytes, actors_bytes, tids_bytes, info_bytes, complete_bytes, prepare_bytes, values_bytes, done_bytes, act_done_bytes, record_bytes, IsState, IsInfo, IsDone, IsActDone, IsRecord}
+use Rattle.txn_records.proofs.RecordSizes.{field_size, fields_size, state_size, actors_size, tids_size}
 use Rattle.log_set.specs.Told.{told, bid_of, tid_of, actor_of, tids_of, actors_of}
 use Rattle.run_effects.specs.Sizes.{longest_told}
-
--- ---- lists of things that take so many bytes each
-
-field_size : (z : ℤ) → length (field_bytes z) ≡ 8
-unfolding field_bytes
-field_size z = refl
-
-fields_size : (zs : List ℤ) → length (flat_map field_bytes zs) ≡ 8 * length zs
-fields_size [] = refl
-fields_size (z ∷ zs) = omega (arith, length-append (field_bytes z) (flat_map field_bytes zs), field_size z, fields_size zs)
-
-state_size : (s : State) → IsState s → length (state_bytes s) ≡ 128
-unfolding state_bytes
-state_size s is = fields_size s.0 ∙ ap (λ (n : ℕ). 8 * n) is.len
-
-actors_size : (actors : List ActorId) → length (actors_bytes actors) ≡ 2 * length actors
-actors_size [] = refl
-actors_size (a ∷ actors) = omega (arith, actors_size actors)
-
-tids_size : (ts : List Tid) → length (tids_bytes ts) ≡ 8 * length ts
-tids_size [] = refl
-tids_size (t ∷ ts) = omega (arith, tids_size ts)
 
 -- ---- one record, of which the longest is an info
 

@@ -56,7 +56,7 @@ pub begins_unwritten : (logs : List (List Record)) (states : List State) (o : Op
 begins_unwritten logs states o added (inl new) = inl (new.0, new.1)
 begins_unwritten logs states o added (inr on) = inr on.0
 
-no_geneses : (logs : List (List Record)) → AreEmpty logs → all_of logs ≡ []
+pub no_geneses : (logs : List (List Record)) → AreEmpty logs → all_of logs ≡ []
 no_geneses [] empty = refl
 no_geneses (rs ∷ logs) empty = ap (λ (l : List Record). l ++ all_of logs) empty.0 ∙ no_geneses logs empty.1
 

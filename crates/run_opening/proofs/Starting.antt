@@ -1,8 +1,9 @@
 -- What a run begins with, by the records of its logs.
 use Rattle.std.proofs.Common.{◌≡◌, ◌≢◌, ℕ, ◌+◌, ◌≤◌, inl, inr, List, [], ◌∷◌, length, refl, sym, ◌∙◌, ap, subst, arith}
 use Rattle.std.proofs.lemmas.List.{append-nil}
-use Rattle.std.specs.List.{AllByRecursion, AllZip, enumerate_from}
+use Rattle.std.specs.List.{AllByRecursion, enumerate_from}
 use Rattle.snap_base.specs.declared.transactions.State.{State}
+use Rattle.snap_base.proofs.Lists.{zip_length}
 use Rattle.txn_records.specs.declared.records.Record.{Record}
 use Rattle.txn_records.specs.declared.records.Record.TheVariants.{Genesis}
 use Rattle.txn_records.specs.Records.{record_bytes, IsState, IsRecord}
@@ -49,18 +50,12 @@ pub enumerated : (n : ℕ) (states : List State) → length (enumerate_from n st
 enumerated n [] = refl
 enumerated n (s ∷ ss) = omega (arith, enumerated (n + 1) ss)
 
-pub zip_long : {A B : Type 0} (R : A → B → Type 0) (xs : List A) (ys : List B) → AllZip R xs ys → length xs ≡ length ys
-zip_long R [] [] all = refl
-zip_long R [] (y ∷ ys) all = absurd all
-zip_long R (x ∷ xs) [] all = absurd all
-zip_long R (x ∷ xs) (y ∷ ys) all = omega (arith, zip_long R xs ys all.1)
-
 -- as many as the text gives
 pub began_long : (logs : List (List Record)) (states : List State) (o : Opening) → IsRecovered logs o → BeganWith logs states → length o.states ≡ length states
 began_long logs states o recovered began =
     let same : Genesis (length logs) recovered.begun.0 ∷ [] ≡ Genesis (length logs) states ∷ [] = sym recovered.begun.1.one ∙ began in
     let first : recovered.begun.0 ≡ states = cc in
-    let long = zip_long _ (enumerate_from 0 recovered.begun.0) o.states recovered.begun.2 in
+    let long = zip_length _ (enumerate_from 0 recovered.begun.0) o.states recovered.begun.2 in
     omega (arith, long, enumerated 0 recovered.begun.0, ap (λ (l : List State). length l) first)
 
 -- what the law recovered_states of snap_recover says

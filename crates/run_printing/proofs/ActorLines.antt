@@ -7,7 +7,7 @@ use Rattle.protocol.specs.Parts.{Cell, Machine}
 use Rattle.protocol.specs.Effects.{cell_at, no_cell}
 use Rattle.snap_report.specs.Lines.{actor_text, actors_text}
 
-actors_text-push : (n m : ℕ) (states : List State) (s : State) → m ≡ n + length states
+pub actors_text-push : (n m : ℕ) (states : List State) (s : State) → m ≡ n + length states
     → actors_text n (states ++ s ∷ []) ≡ actors_text n states ++ actor_text m s
 actors_text-push n m [] s h = let same : m ≡ n = omega arith in rw same (append-nil _)
 actors_text-push n m (x ∷ xs) s h =

@@ -1,5 +1,5 @@
 -- The counts of the report, one event after the other.
-use Rattle.std.proofs.Common.{◌≡◌, ℕ, ◌+◌, ◌<◌, Bool, true, false, not, List, [], ◌∷◌, ◌++◌, map, take, get_or, length, refl, sym, ap, ◌∙◌, arith}
+use Rattle.std.proofs.Common.{◌≡◌, ℕ, ◌+◌, ◌<◌, not, List, [], ◌∷◌, ◌++◌, map, take, get_or, length, refl, sym, ap, ◌∙◌, arith}
 use Rattle.std.proofs.lemmas.List.{map_more}
 use Rattle.core_events.specs.declared.events.Event as code
 use Rattle.core_events.specs.Meant.{event_meant}
@@ -10,15 +10,10 @@ use Rattle.protocol.specs.Report.{Answer, answer, answers, is_committed}
 use Rattle.protocol.specs.Verdicts.{verdict}
 use Rattle.protocol.specs.Words.{count, holds}
 use Rattle.protocol.specs.Left.{total}
+use Rattle.protocol_theorems.proofs.quiet.LimitsHold.{count_cons}
 use Rattle.run_effects.specs.Laws.{settles}
 use Rattle.run_effects.specs.Replies.{commits_of, aborts_of}
 use Rattle.run_printing.specs.Counted.{settled_by}
-
-count_one : {X : Type 0} (test : X → Bool) (x : X) (xs : List X) → count test (x ∷ xs) ≡ one_if (test x) + count test xs
-count_one test x xs = go (test x) refl where
-  go : (b : Bool) → test x ≡ b → count test (x ∷ xs) ≡ one_if (test x) + count test xs
-  go true is = rw is (omega arith)
-  go false is = rw is (omega arith)
 
 none_more : (n : ℕ) → n ≡ 0 + n
 none_more n = omega arith
@@ -26,14 +21,14 @@ none_more n = omega arith
 pub committed_total : {C : Type 0} (s : Machine C) (es : List Event) → count (λ x. holds is_committed x.verdict) (answers es s) ≡ total (commits_of s) es
 committed_total s [] = refl
 committed_total s (Reply n ∷ es) =
-    count_one (λ (x : Answer). holds is_committed x.verdict) (answer s n) (answers es s)
+    count_cons (λ (x : Answer). holds is_committed x.verdict) (answer s n) (answers es s)
     ∙ ap (λ m. one_if (holds is_committed (verdict n s.book s.desk)) + m) (committed_total s es)
 committed_total s (_ ∷ es) = committed_total s es ∙ none_more _
 
 pub aborted_total : {C : Type 0} (s : Machine C) (es : List Event) → count (λ x. not (holds is_committed x.verdict)) (answers es s) ≡ total (aborts_of s) es
 aborted_total s [] = refl
 aborted_total s (Reply n ∷ es) =
-    count_one (λ (x : Answer). not (holds is_committed x.verdict)) (answer s n) (answers es s)
+    count_cons (λ (x : Answer). not (holds is_committed x.verdict)) (answer s n) (answers es s)
     ∙ ap (λ m. one_if (not (holds is_committed (verdict n s.book s.desk))) + m) (aborted_total s es)
 aborted_total s (_ ∷ es) = aborted_total s es ∙ none_more _
 

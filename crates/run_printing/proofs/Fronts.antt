@@ -1,5 +1,5 @@
 -- Fronts of what is written bit by bit.
-use Rattle.std.proofs.Common.{◌≡◌, ℕ, ◌≤◌, inl, inr, Option, List, [], ◌++◌, flat_map, sym, ap, ◌∙◌, append_assoc, append-nil, arith, Result, Ok, Err, OnErr, IsOkUnless}
+use Rattle.std.proofs.Common.{◌≡◌, ℕ, ◌≤◌, inl, inr, Option, List, [], ◌++◌, flat_map, sym, ap, ◌∙◌, append_assoc, append-nil, arith, Result, Ok, Err, IsOkUnless}
 use Rattle.std.specs.Io.KnownBytes.{Appends}
 use Rattle.std.proofs.KnownBytes.{Appends-trans, Appends-kept}
 use Rattle.std.proofs.lemmas.Grind.{flat_map-append}
@@ -30,11 +30,6 @@ lines_cut line old mid new before since now first piece rest xs are taken later 
 -- all lines are whole lines
 pub lines_whole : {X : Type 0} (line : X → List ℕ) (old new : Option (List ℕ)) (before now : ℕ) (xs : List X) → Appends old new (flat_map line xs) → AppendsLines line old new before now xs
 lines_whole line old new before now xs whole = inl (xs, [], sym (append-nil xs), whole)
-
--- what holds anyhow holds of an error
-pub on_any_err : {T E : Type 0} (P : Type 0) (r : Result T E) → P → OnErr r P
-on_any_err P (Ok x) p = tt
-on_any_err P (Err e) p = p
 
 -- who fails at the sink alone does not lack memory
 pub not_memory : {T : Type 0} (r : Result T WriteNo) → IsOkUnless r writing.Fault → r ≡ Err writing.Memory → ⊥

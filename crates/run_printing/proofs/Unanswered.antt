@@ -5,22 +5,18 @@ use Rattle.std.proofs.lemmas.List.Elements.{filter-append}
 use Rattle.std.proofs.lemmas.List.Folds.{list_any-append}
 use Rattle.core_events.specs.declared.events.Event as code
 use Rattle.core_events.specs.Meant.{event_meant}
-use Rattle.protocol.specs.Events.{Event, Reply}
+use Rattle.protocol.specs.Events.{Event}
 use Rattle.protocol.specs.Report.{replied}
 use Rattle.protocol.specs.Words.{below, is_among}
+use Rattle.run_effects.proofs.RepliesGrown.{replied_join}
 use Rattle.run_printing.specs.Printed.{unanswered}
-
-pub replied-append : (xs ys : List Event) → replied (xs ++ ys) ≡ replied xs ++ replied ys
-replied-append [] ys = refl
-replied-append (Reply n ∷ xs) ys = ap (λ l. n ∷ l) (replied-append xs ys)
-replied-append (_ ∷ xs) ys = replied-append xs ys
 
 -- one more event
 pub among_more : (es : List code.Event) (i n : ℕ) (e d : code.Event) → i < length es → get_or es i d ≡ e
     → is_among n (replied (map event_meant (take (i + 1) es))) ≡ (is_among n (replied (map event_meant (take i es))) || is_among n (replied (event_meant e ∷ [])))
 among_more es i n e d within is =
     ap (λ l. is_among n (replied l)) (map_more event_meant es i d within ∙ ap (λ x. map event_meant (take i es) ++ event_meant x ∷ []) is)
-    ∙ ap (is_among n) (replied-append (map event_meant (take i es)) (event_meant e ∷ []))
+    ∙ ap (is_among n) (replied_join (map event_meant (take i es)) (event_meant e ∷ []))
     ∙ list_any-append (λ x. nat_eq x n) (replied (map event_meant (take i es))) (replied (event_meant e ∷ []))
 
 -- a mark that is not set

@@ -2,12 +2,11 @@
 use Rattle.std.specs.Prelude.{◌≡◌, ◌≢◌, refl, ℕ, zero, suc, ◌+◌, ◌<◌, Bool, true, false, ◌⊎◌, Option, Some, None, List, [], ◌∷◌, ◌++◌, length, take, drop, IfSome}
 use Rattle.std.proofs.Common.{inl, inr, arith, sym, ap, subst, ◌∙◌}
 use Rattle.std.proofs.lemmas.Bool.{true≢false}
-use Rattle.std.proofs.lemmas.List.{append-nil, map-append, take-append-drop}
+use Rattle.std.proofs.lemmas.List.{append-nil, map-append, take-append-drop, append_assoc}
 use Rattle.std.proofs.lemmas.List.Concat.{flat_map-cons}
 use Rattle.std.proofs.lemmas.Grind.{flat_map-append}
 use Rattle.std.proofs.Math.Seq.{take-length}
 use Rattle.aml_slice.specs.Controls.{Rest}
-use Rattle.gate_log.specs.Appends.{end_behind}
 use Rattle.gate_log.specs.Opened.{Opened}
 use Rattle.log_opening.specs.Devices.{device_at}
 use Rattle.protocol.specs.Effects.{log_at}
@@ -17,9 +16,10 @@ use Rattle.protocol.specs.Moments.{Moment}
 use Rattle.protocol.specs.Parts.{Log}
 use Rattle.protocol.specs.Records.{LogRecord}
 use Rattle.protocol.specs.Runs.{IsRun, reached}
-use Rattle.record_log.specs.Growth.{HoldsWhole, IsTried, MayAppendGroup, MayAppendGroups, GrewBy, all_records, begun_groups, end_behind_groups}
+use Rattle.record_log.specs.Growth.{HoldsWhole, IsTried, MayAppendGroups, GrewBy, all_records, begun_groups, end_behind_groups}
 use Rattle.record_log.specs.GrowthLaws.{MomentKeeps}
-use Rattle.record_log.specs.Records.{HoldsRecords, spelled}
+use Rattle.record_log.specs.Records.{HoldsRecords}
+use Rattle.record_log.proofs.Growing.{may_more}
 use Rattle.log_set.specs.Told.{all_told, told}
 use Rattle.recovery_laws.specs.Grown.{grown, grown_from}
 use Rattle.run_opening.specs.Opens.{as_groups, first_groups, records_at, with_first}
@@ -32,7 +32,7 @@ use Rattle.run_effects.specs.Made.{IsMade}
 use Rattle.run_recovery.specs.Crashes.{CrashOn, begun_on, earlier}
 use Rattle.run_recovery.specs.OneRun.{TheRun, MomentOf, machine_in, reached_at}
 use Rattle.run_recovery.specs.Runs.{IsRunDevice, tried_on}
-use Rattle.run_recovery.proofs.NextGroups.{assoc, next_waits}
+use Rattle.run_recovery.proofs.NextGroups.{next_waits}
 
 -- ---- lists of records
 
@@ -43,10 +43,6 @@ grown_up n (suc l) (rs ∷ rss) logs lt = let e : (n + 1) + l ≡ n + suc l = om
 
 pub grown_at : (rss : List (List Record)) (logs : ℕ → List LogRecord) (l : ℕ) → l < length rss → records_at (grown rss logs) l ≡ records_at rss l ++ all_told (logs l)
 grown_at rss logs l lt = let e : 0 + l ≡ l = omega arith in grown_up 0 l rss logs lt ∙ ap (λ j. records_at rss l ++ all_told (logs j)) e
-
-pub grown_long : (n : ℕ) (rss : List (List Record)) (logs : ℕ → List LogRecord) → length (grown_from n rss logs) ≡ length rss
-grown_long n [] logs = refl
-grown_long n (rs ∷ rss) logs = ap suc (grown_long (n + 1) rss logs)
 
 as_all : (added : List Record) → all_records (as_groups added) ≡ added
 as_all [] = refl
@@ -66,13 +62,9 @@ all_of_log g = ap all_told (take-length g.records ∙ sym (take-append-drop g.sy
 
 -- ---- the appends that were begun
 
-may_join : (end : ℕ) (groups : List (List Record)) (group : List Record) → MayAppendGroups end groups → MayAppendGroup (end_behind_groups end groups) group → MayAppendGroups end (groups ++ group ∷ [])
-may_join end [] group may one = (one, tt)
-may_join end (x ∷ groups) group may one = (may.0, may_join (end_behind end (spelled x)) groups group may.1 one)
-
 may_begin : (end : ℕ) (groups : List (List Record)) (tried : Option (List Record)) (made : List DevOp) → MayAppendGroups end groups → IsTried (end_behind_groups end groups) tried made → MayAppendGroups end (begun_groups groups tried)
 may_begin end groups None made may t = may
-may_begin end groups (Some group) made may t = may_join end groups group may t.0
+may_begin end groups (Some group) made may t = may_more end groups group may t.0
 
 grew_may : (h : History) (new : Option History) (end : ℕ) (groups : List (List Record)) (tried : Option (List Record)) → GrewBy (Some h) new end groups tried → MayAppendGroups end (begun_groups groups tried)
 grew_may h new end groups tried grew = let g = grew.1 in may_begin end groups tried g.begun g.may g.last
@@ -105,7 +97,7 @@ cut_by w es m l failed before image begun (group ∷ later) waits next (inr more
     let g = log_at (reached w m.events) l in
     let on : m.has_begun l ≡ true = has_begun (m.has_begun l) begun more.0 waits in
     let is : (before ++ durable g) ++ group ≡ before ++ all_told (take (length g.records) g.records) =
-    ap (λ x. (before ++ durable g) ++ x) (next group later refl on) ∙ (assoc before (durable g) (waiting g) ∙ ap (λ x. before ++ x) (sym (all_of_log g))) in (
+    ap (λ x. (before ++ durable g) ++ x) (next group later refl on) ∙ (append_assoc before (durable g) (waiting g) ∙ ap (λ x. before ++ x) (sym (all_of_log g))) in (
       length g.records,
       record { same = λ none. absurd (true≢false (sym on ∙ none)); whole = inr refl },
       subst (λ x. HoldsRecords image x) is more.1,
@@ -173,5 +165,5 @@ cut_at r m images keeps synced run crash l lt =
     is : rs ++ all_records (first ++ groups) ≡ records_at (earlier r) l ++ durable (log_at (reached_at r m) l)
     is =
         ap (λ xs. rs ++ xs) (flat_map-append (λ (g : List Record). g) first groups ∙ ap (λ xs. all_records first ++ xs) (synced l m.events run))
-        ∙ (sym (assoc rs (all_records first) (durable (log_at (reached_at r m) l)))
+        ∙ (sym (append_assoc rs (all_records first) (durable (log_at (reached_at r m) l)))
         ∙ ap (λ xs. xs ++ durable (log_at (reached_at r m) l)) (sym (first_at r.devices.records r.devices.added l (rw r.devices.as_many lt))))

@@ -1,53 +1,40 @@
 -- The group that a log gets next, where its append has begun at a moment, is what waits there at that moment.
-use Rattle.std.specs.Prelude.{◌≡◌, refl, ℕ, zero, suc, ◌%◌, ◌==◌, ◌||◌, Bool, true, false, if◌then◌else◌, ◌⊎◌, Option, Some, None, List, [], ◌∷◌, ◌++◌, slice_index_or, slice_set}
+use Rattle.std.specs.Prelude.{◌≡◌, refl, ℕ, ◌%◌, ◌==◌, Bool, true, false, if◌then◌else◌, ◌⊎◌, Option, Some, None, List, [], ◌∷◌, ◌++◌}
 use Rattle.std.proofs.Common.{inl, inr, sym, ap, subst, ◌∙◌}
-use Rattle.std.proofs.lemmas.Bool.{eqb-true, eqb-false, eq-eqb, true≢false}
-use Rattle.std.proofs.lemmas.List.{append-nil, append_cancel_left}
-use Rattle.protocol.specs.Effects.{after, log_at, no_log}
+use Rattle.std.proofs.lemmas.Bool.{eqb-true, eqb-false, eq-eqb}
+use Rattle.std.proofs.lemmas.List.{append-nil, append_cancel_left, append_assoc}
+use Rattle.snap_base.proofs.Booleans.{first_false, second_false}
+use Rattle.protocol.specs.Effects.{after, log_at}
 use Rattle.protocol.specs.Events.{Event, Form, Complete, Sync, Commit, Prepare, Decide, book, cell, desk, footprint, log, post, ring}
 use Rattle.protocol.specs.Fixed.{Fixed}
 use Rattle.protocol.specs.Moments.{IsUnderWay, Moment, NoneTouches}
-use Rattle.protocol.specs.Parts.{Log, Machine}
+use Rattle.protocol.specs.Parts.{Machine}
 use Rattle.protocol.specs.Runs.{opening, reached, state_after}
 use Rattle.protocol.specs.Words.{is_among}
 use Rattle.record_log.specs.Growth.{begun_groups}
 use Rattle.run_effects.specs.Groups.{group_behind, group_by, groups_from, groups_of, waiting}
+use Rattle.run_effects.proofs.RunsLonger.{state_longer}
+use Rattle.run_effects.proofs.GroupsGrown.{set_elsewhere}
 use Rattle.txn_records.specs.declared.records.Record.{Record}
 use Rattle.run_recovery.specs.Runs.{tried_on}
 
 -- ---- runs and lists, one behind the other
 
-pub assoc : {X : Type 0} (xs ys zs : List X) → (xs ++ ys) ++ zs ≡ xs ++ (ys ++ zs)
-assoc [] ys zs = refl
-assoc (x ∷ xs) ys zs = rw (assoc xs ys zs) refl
-
-state_join : {C : Type 0} (w : Fixed C) (es fs : List Event) (s : Machine C) → state_after w (es ++ fs) s ≡ state_after w fs (state_after w es s)
-state_join w [] fs s = refl
-state_join w (e ∷ es) fs s = state_join w es fs (after w e s)
-
 groups_join : {C : Type 0} (w : Fixed C) (l : ℕ) (es fs : List Event) (s : Machine C) → groups_from w l (es ++ fs) s ≡ groups_from w l es s ++ groups_from w l fs (state_after w es s)
 groups_join w l [] fs s = refl
-groups_join w l (e ∷ es) fs s = ap (λ gs. group_by l e s ++ gs) (groups_join w l es fs (after w e s)) ∙ sym (assoc (group_by l e s) (groups_from w l es (after w e s)) (groups_from w l fs (state_after w es (after w e s))))
+groups_join w l (e ∷ es) fs s = ap (λ gs. group_by l e s ++ gs) (groups_join w l es fs (after w e s)) ∙ sym (append_assoc (group_by l e s) (groups_from w l es (after w e s)) (groups_from w l fs (state_after w es (after w e s))))
 
 begun_join : (xs ys : List (List Record)) (tried : Option (List Record)) → begun_groups (xs ++ ys) tried ≡ xs ++ begun_groups ys tried
 begun_join xs ys None = refl
-begun_join xs ys (Some group) = assoc xs ys (group ∷ [])
+begun_join xs ys (Some group) = append_assoc xs ys (group ∷ [])
 
 -- ---- an event that leaves the log alone
 
-left_false : (x y : Bool) → (x || y) ≡ false → x ≡ false
-left_false true y e = e
-left_false false y e = refl
-
-right_false : (x y : Bool) → (x || y) ≡ false → y ≡ false
-right_false true y e = absurd (true≢false e)
-right_false false y e = e
-
 first_not : (l x : ℕ) (xs : List ℕ) → is_among (log l) (x ∷ xs) ≡ false → (x == log l) ≡ false
-first_not l x xs e = left_false (x == log l) (is_among (log l) xs) e
+first_not l x xs e = first_false (x == log l) (is_among (log l) xs) e
 
 rest_not : (l x : ℕ) (xs : List ℕ) → is_among (log l) (x ∷ xs) ≡ false → is_among (log l) xs ≡ false
-rest_not l x xs e = right_false (x == log l) (is_among (log l) xs) e
+rest_not l x xs e = second_false (x == log l) (is_among (log l) xs) e
 
 second_not : (l x y : ℕ) (xs : List ℕ) → is_among (log l) (x ∷ y ∷ xs) ≡ false → (y == log l) ≡ false
 second_not l x y xs e = first_not l y xs (rest_not l x (y ∷ xs) e)
@@ -57,13 +44,6 @@ third_not l x y z xs e = second_not l y z xs (rest_not l x (y ∷ z ∷ xs) e)
 
 another : (k l : ℕ) → (log k == log l) ≡ false → k ≡ l → ⊥
 another k l h e = eqb-false (log k) (log l) h (ap log e)
-
-set_elsewhere : (gs : List Log) (k l : ℕ) (g : Log) → (k ≡ l → ⊥) → slice_index_or (slice_set gs k g) l no_log ≡ slice_index_or gs l no_log
-set_elsewhere [] k l g h = refl
-set_elsewhere (x ∷ gs) zero zero g h = absurd (h refl)
-set_elsewhere (x ∷ gs) zero (suc l) g h = refl
-set_elsewhere (x ∷ gs) (suc k) zero g h = refl
-set_elsewhere (x ∷ gs) (suc k) (suc l) g h = set_elsewhere gs k l g (λ e. h (ap suc e))
 
 unchanged : {C : Type 0} (w : Fixed C) (e : Event) (s : Machine C) (l : ℕ) → is_among (log l) (footprint w.text.logs e) ≡ false → log_at (after w e s) l ≡ log_at s l
 unfolding after
@@ -164,10 +144,10 @@ next_waits {C} w es m l failed first group later begun e = next_of w l m.later n
     groups =
         ap (λ fs. first ++ groups_of w l fs) m.splits
         ∙ (ap (λ gs. first ++ gs) (groups_join w l m.events m.later (opening w))
-        ∙ sym (assoc first (groups_of w l m.events) (groups_from w l m.later now)))
+        ∙ sym (append_assoc first (groups_of w l m.events) (groups_from w l m.later now)))
 
     at : reached w es ≡ state_after w m.later now
-    at = ap (λ fs. reached w fs) m.splits ∙ state_join w m.events m.later (opening w)
+    at = ap (λ fs. reached w fs) m.splits ∙ state_longer w m.events m.later (opening w)
 
     tried : Option (List Record)
     tried = tried_on failed l (waiting (log_at (state_after w m.later now) l))

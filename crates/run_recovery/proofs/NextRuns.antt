@@ -1,20 +1,19 @@
 -- What a crash leaves of the logs is what the next run begins on.
-use Rattle.std.specs.Prelude.{◌≡◌, refl, ℕ, ◌+◌, ◌≤◌, List, [], ◌∷◌, ◌++◌, length, filter}
+use Rattle.std.specs.Prelude.{◌≡◌, ℕ, ◌≤◌, List, [], ◌∷◌, length, filter}
 use Rattle.std.proofs.Common.{inl, inr, sym, ap, ◌∙◌}
-use Rattle.std.proofs.lemmas.List.{append-nil}
-use Rattle.std.proofs.lemmas.List.Elements.{filter-append}
 use Rattle.aml_tree.specs.Tree.{CheckedMethod}
 use Rattle.protocol.specs.Moments.{left_in}
 use Rattle.protocol.specs.Records as written
 use Rattle.protocol.specs.Records.{LogRecord}
-use Rattle.recovery_laws.specs.Grown.{grown, grown_from}
-use Rattle.log_set.specs.Told.{all_told}
+use Rattle.recovery_laws.specs.Grown.{grown}
+use Rattle.recovery_laws.proofs.WrittenLists.{grown_length, grown_genesis}
 use Rattle.run_opening.specs.Begins.{AreEmpty, BeganWith, Begins}
 use Rattle.run_opening.specs.Opens.{with_first}
 use Rattle.run_opening.specs.Starts.{IsStart}
+use Rattle.run_opening.proofs.RunOpening.{no_geneses}
 use Rattle.snap_base.specs.declared.transactions.State.{State}
 use Rattle.snap_recover.specs.declared.openings.Opening.{Opening}
-use Rattle.snap_recover.specs.Logs.{all_of, geneses, is_genesis}
+use Rattle.snap_recover.specs.Logs.{is_genesis}
 use Rattle.snap_recover.specs.Opening.{IsRecovered}
 use Rattle.snap_work.specs.Kept.{KeepsLimits}
 use Rattle.txn_records.specs.declared.records.Record.{Record}
@@ -23,40 +22,19 @@ use Rattle.run_recovery.specs.Crashes.{Recovers, earlier}
 use Rattle.run_recovery.specs.Next.{GoesOnFrom, opening_left, records_left}
 use Rattle.run_recovery.specs.OneRun.{TheRun, MomentOf, reached_at}
 use Rattle.run_recovery.specs.Runs.{AreRunDevices}
-use Rattle.run_recovery.proofs.LogsLeft.{first_long, grown_long}
+use Rattle.run_recovery.proofs.LogsLeft.{first_long}
 use Rattle.run_recovery.proofs.SaidLogs.{said_grown, said_written}
-
--- ---- a run writes no Genesis
-
-none_written : (rs : List LogRecord) → filter is_genesis (all_told rs) ≡ []
-none_written [] = refl
-none_written (written.BatchInfo k actors tids ∷ rs) = none_written rs
-none_written (written.BatchComplete k a st ∷ rs) = none_written rs
-none_written (written.BatchDone k vs ∷ rs) = none_written rs
-none_written (written.ActPrepare t a st ∷ rs) = none_written rs
-none_written (written.ActDone t m c v actors ∷ rs) = none_written rs
-
-grown_geneses : (n : ℕ) (rss : List (List Record)) (logs : ℕ → List LogRecord) → geneses (grown_from n rss logs) ≡ geneses rss
-grown_geneses n [] logs = refl
-grown_geneses n (rs ∷ rss) logs =
-    filter-append is_genesis (rs ++ all_told (logs n)) (all_of (grown_from (n + 1) rss logs))
-    ∙ (ap (λ (z : List Record). z ++ geneses (grown_from (n + 1) rss logs)) (filter-append is_genesis rs (all_told (logs n)) ∙ (ap (λ (z : List Record). filter is_genesis rs ++ z) (none_written (logs n)) ∙ append-nil (filter is_genesis rs)))
-    ∙ (ap (λ (z : List Record). filter is_genesis rs ++ z) (grown_geneses (n + 1) rss logs) ∙ sym (filter-append is_genesis rs (all_of rss))))
 
 -- ---- lists of records that began
 
-none_of : (logs : List (List Record)) → AreEmpty logs → all_of logs ≡ []
-none_of [] empty = refl
-none_of (rs ∷ logs) empty = ap (λ (l : List Record). l ++ all_of logs) empty.0 ∙ none_of logs empty.1
-
 began_some : (logs : List (List Record)) (states : List State) → BeganWith logs states → ¬ AreEmpty logs
-began_some logs states began empty = let none : Genesis (length logs) states ∷ [] ≡ [] = sym began ∙ ap (filter is_genesis) (none_of logs empty) in cc
+began_some logs states began empty = let none : Genesis (length logs) states ∷ [] ≡ [] = sym began ∙ ap (filter is_genesis) (no_geneses logs empty) in cc
 
 began_grown : (logs : List (List Record)) (states : List State) (more : ℕ → List LogRecord) → BeganWith logs states → BeganWith (grown logs more) states
-began_grown logs states more began = grown_geneses 0 logs more ∙ (began ∙ ap (λ (n : ℕ). Genesis n states ∷ []) (sym (grown_long 0 logs more)))
+began_grown logs states more began = grown_genesis 0 logs more ∙ (began ∙ ap (λ (n : ℕ). Genesis n states ∷ []) (sym (grown_length 0 logs more)))
 
 grown_began : (logs : List (List Record)) (states : List State) (more : ℕ → List LogRecord) → BeganWith (grown logs more) states → BeganWith logs states
-grown_began logs states more began = sym (grown_geneses 0 logs more) ∙ (began ∙ ap (λ (n : ℕ). Genesis n states ∷ []) (grown_long 0 logs more))
+grown_began logs states more began = sym (grown_genesis 0 logs more) ∙ (began ∙ ap (λ (n : ℕ). Genesis n states ∷ []) (grown_length 0 logs more))
 
 one_beginning : (logs : List (List Record)) (first states : List State) → BeganWith logs first → BeganWith logs states → first ≡ states
 one_beginning logs first states a b = let e : Genesis (length logs) first ∷ [] ≡ Genesis (length logs) states ∷ [] = sym a ∙ b in cc
@@ -82,7 +60,7 @@ begins_alone one logs first states o q began recovered (inr on) = (one logs q o 
 
 pub goes_on : BeginsWritten → OneOpening → (p : List CheckedMethod) (r : TheRun) (m : MomentOf r) (images : ℕ → List ℕ) → KeepsLimits r.work → (left : Recovers p r m images) → GoesOnFrom left
 goes_on law one p r m images limits left = record {
-  as_many = grown_long 0 (earlier r) more ∙ (first_long devices.records devices.added ∙ devices.as_many);
+  as_many = grown_length 0 (earlier r) more ∙ (first_long devices.records devices.added ∙ devices.as_many);
   holds = left.holds;
   some = began_some (records_left left) states same;
   recovered = left.members.recovered;

@@ -1,5 +1,5 @@
 -- What a run on its logs is to the laws of the machine, and what a crash at a moment of it recovers to.
-use Rattle.std.specs.Prelude.{◌≡◌, refl, ℕ, ◌<◌, nat_lt, Bool, true, false, List, [], ◌∷◌, ◌++◌, length}
+use Rattle.std.specs.Prelude.{◌≡◌, refl, ℕ, ◌<◌, nat_lt, Bool, true, false, List, length}
 use Rattle.std.proofs.Common.{sym, subst, ◌∙◌}
 use Rattle.std.proofs.lemmas.Bool.{ltb-true, lt-ltb, true≢false}
 use Rattle.aml_slice.specs.Controls.{Rest}
@@ -14,11 +14,12 @@ use Rattle.protocol.specs.Facts.{Alone}
 use Rattle.protocol.specs.History.{History, history}
 use Rattle.protocol.specs.Moments.{IsLeft, left_in}
 use Rattle.protocol.specs.Parts.{Machine}
-use Rattle.protocol.specs.Runs.{EachAllowed, IsRun, opening, reached}
+use Rattle.protocol.specs.Runs.{IsRun, opening, reached}
 use Rattle.protocol_records.specs.Crash.{CrashHolds}
 use Rattle.record_log.specs.GrowthLaws.{MomentKeeps}
 use Rattle.record_log.specs.Records.{HoldsRecords}
 use Rattle.recovery_laws.specs.Joined.{RecoversToMembers}
+use Rattle.recovery_laws.proofs.MomentsJoined.{front_allowed}
 use Rattle.run_opening.specs.Opens.{records_at}
 use Rattle.run_effects.specs.Laws.{GroupsAreDurable}
 use Rattle.snap_base.specs.declared.transactions.State.{State}
@@ -42,10 +43,6 @@ is_run w schedule o es failed before after run = taken_run (machine_of w o) sche
 
 is_text : (w : Work) (schedule : Schedule) (o : Opening) (es : List machine.Event) (failed : ℕ → Bool) (before after : List Device) → KeepsLimits w → HasRun w schedule o es failed before after → IsTextOf w.program (text_of w o)
 is_text w schedule o es failed before after kept run = text_begins w o kept run.room (starts_with_as_many run.devices.records w.states o run.devices.added run.devices.start)
-
-front_allowed : {C : Type 0} (w : Fixed C) (es later : List machine.Event) (s : Machine C) → EachAllowed w (es ++ later) s → EachAllowed w es s
-front_allowed w [] later s run = tt
-front_allowed w (e ∷ es) later s run = (run.0, front_allowed w es later (effects.after w e s) run.1)
 
 -- what holds of every run of the program's texts holds of each run of a work of it
 pub of_run : (P : Fixed Rest → (Rest → List State → Alone) → List machine.Event → Type 0) (p : List CheckedMethod) → OfEveryRunOf p P → OfEachRun p P

@@ -7,6 +7,7 @@ use Rattle.protocol.specs.Records as written
 use Rattle.protocol.specs.Records.{LogRecord}
 use Rattle.log_set.specs.Told.{all_told}
 use Rattle.recovery_laws.specs.Grown.{grown, grown_from}
+use Rattle.recovery_laws.proofs.WrittenLists.{grown_length}
 use Rattle.run_opening.specs.Begins.{AreOfRuns}
 use Rattle.run_opening.specs.Opens.{with_first}
 use Rattle.run_opening.specs.Starts.{IsStart}
@@ -14,7 +15,6 @@ use Rattle.snap_base.specs.declared.transactions.State.{State}
 use Rattle.snap_recover.specs.declared.openings.Opening.{Opening}
 use Rattle.txn_records.specs.declared.records.Record.{Record}
 use Rattle.txn_records.specs.declared.records.Record.TheVariants.{Genesis, BatchInfo, BatchComplete, BatchCommit, ActPrepare, ActCommit, BatchDone, ActDone}
-use Rattle.run_recovery.proofs.LogsLeft.{grown_long}
 
 -- ---- a run's records say nothing of it
 
@@ -45,7 +45,7 @@ said_grown (rs ∷ rss) more said =
       rs ++ all_told (more 0),
       grown_from (0 + 1) rss more,
       refl,
-      grown_long 0 (rs ∷ rss) more ∙ (said.3 ∙ (ap (λ (l : List Record). logs_said l) first ∙ sym (said_before rs (more 0)))),
+      grown_length 0 (rs ∷ rss) more ∙ (said.3 ∙ (ap (λ (l : List Record). logs_said l) first ∙ sym (said_before rs (more 0)))),
     )
 
 -- ---- what is written before a run

@@ -6,7 +6,6 @@ use Rattle.std.proofs.lemmas.List.{append-nil}
 use Rattle.aml_tree.specs.Tree.{CheckedMethod}
 use Rattle.log_opening.specs.Devices.{Device, device_at}
 use Rattle.log_opening.specs.Kept.{DeviceHolds}
-use Rattle.machine_recovery.proofs.Programs.{each_at}
 use Rattle.protocol.specs.Events as machine
 use Rattle.protocol.specs.Moments.{left_in}
 use Rattle.protocol.specs.History.{history}
@@ -19,6 +18,7 @@ use Rattle.run_opening.specs.Begins.{AreOfRuns, Begins, fresh_opening}
 use Rattle.run_opening.specs.Opens.{records_at}
 use Rattle.run_opening.specs.Starts.{IsStart, first_record}
 use Rattle.snap_base.specs.declared.transactions.State.{State}
+use Rattle.snap_base.proofs.Lists.{each_at}
 use Rattle.snap_outside.specs.Disk.{History, content}
 use Rattle.snap_recover.specs.declared.openings.Kept.{Kept}
 use Rattle.snap_recover.specs.declared.openings.Opening.{Opening}

@@ -3,13 +3,14 @@ use Rattle.std.proofs.Common.{◌≡◌, ℕ, zero, suc, ◌+◌, ◌<◌, ◌�
 use Rattle.std.specs.Option.{option_flatten}
 use Rattle.std.proofs.lemmas.List.{length-map, length-append}
 use Rattle.std.proofs.lemmas.Option.{slice_get-map}
+use Rattle.snap_base.proofs.Lists.{take_next, one_at}
+use Rattle.snap_base.proofs.Options.{there_at}
 use Rattle.aml_slice.specs.Controls.{Rest}
 use Rattle.protocol.specs.Events.{Event}
 use Rattle.protocol.specs.Fixed.{Fixed}
 use Rattle.protocol.specs.Parts.{Machine}
 use Rattle.snap_core.specs.Apart.{AreItsParts, ShowSomeRun}
 use Rattle.snap_core.specs.Cores.{CoreState, IsCore, IsAt, state_at}
-use Rattle.snap_hand.proofs.Held.{there_at}
 use Rattle.snap_hand.specs.Hands.{Parts, Fits, IsHandOf, IsWhole, are_there}
 use Rattle.snap_hand.specs.Shown.{Shown, TheLog, TheCell, shown, AreAllParts, Belongs, IsPartOf, no_parts, part_at, places, with_part, without}
 use Rattle.snap_hand.specs.Tables.{AreTables, fixed_of}
@@ -27,11 +28,6 @@ first_of (x ∷ xs) (suc i) = first_of xs i
 same_first : {X : Type 0} (xs ys : List X) (i : ℕ) → drop i xs ≡ drop i ys → slice_get xs i ≡ slice_get ys i
 same_first xs ys i same = first_of xs i ∙ (ap (λ zs. slice_get zs 0) same ∙ sym (first_of ys i))
 
-take_one : {X : Type 0} (xs : List X) (i : ℕ) (x : X) → slice_get xs i ≡ Some x → take (suc i) xs ≡ take i xs ++ x ∷ []
-take_one [] i x h = absurd (cc h)
-take_one (y ∷ xs) zero x h = ap (λ z. z ∷ []) (cc h)
-take_one (y ∷ xs) (suc i) x h = ap (λ zs. y ∷ zs) (take_one xs i x h)
-
 drop_set : {X : Type 0} (xs : List X) (i : ℕ) (v : X) → drop (suc i) (slice_set xs i v) ≡ drop (suc i) xs
 drop_set [] i v = refl
 drop_set (x ∷ xs) zero v = refl
@@ -45,11 +41,6 @@ one_less (x ∷ xs) (suc i) = one_less xs i
 
 drop_more : {X : Type 0} (xs ys : List X) (i : ℕ) → drop i xs ≡ drop i ys → drop (suc i) xs ≡ drop (suc i) ys
 drop_more xs ys i same = one_less xs i ∙ (ap (drop 1) same ∙ sym (one_less ys i))
-
-one_at : {X : Type 0} (xs : List X) (i : ℕ) → i < length xs → (x : X) × (slice_get xs i ≡ Some x)
-one_at [] i h = absurd (omega (arith, h))
-one_at (x ∷ xs) zero h = (x, refl)
-one_at (x ∷ xs) (suc i) h = one_at xs i (omega (arith, h))
 
 length_take : {X : Type 0} (xs : List X) (i : ℕ) → i ≤ length xs → length (take i xs) ≡ i
 length_take xs zero h = refl
@@ -88,7 +79,7 @@ next_taken whole h i j old new next tells is within rest taken pushed =
     pushed
     ∙ (ap (λ o. map Some old ++ o ∷ []) (ap option_flatten here.1)
     ∙ (ap (λ os. os ++ Some here.0 ∷ []) taken
-    ∙ (sym (take_one (places whole) i (Some here.0) (sym (same_first (places h) (places whole) i rest) ∙ here.1))
+    ∙ (sym (take_next (places whole) i (Some here.0) (sym (same_first (places h) (places whole) i rest) ∙ here.1))
     ∙ ap (λ n. take n (places whole)) j_is)))
 
 pub next_rest : (whole h new : Parts) (i j : ℕ) → j ≡ i + 1 → ((g : Parts) (k : ℕ) → places (without k g) ≡ slice_set (places g) k None) → new ≡ without i h → RestStands whole i h → RestStands whole j new
@@ -190,16 +181,6 @@ none_at (suc n) (suc i) x e = none_at n i x e
 pub none_hand : (w : Fixed Rest) → IsHandOf w (no_parts w.text.logs (length w.text.opening.states))
 none_hand w = record { logs = as_many w.text.logs None; cells = as_many (length w.text.opening.states) None; room = λ x e. absurd (cc e) }
 
-pub none_fits : (n m : ℕ) (s : Machine Rest) → Fits (no_parts n m) s
-none_fits n m s = record {
-  ring = λ x e. absurd (cc e);
-  book = λ x e. absurd (cc e);
-  post = λ x e. absurd (cc e);
-  desk = λ x e. absurd (cc e);
-  logs = λ l x e. absurd (none_at n l x e);
-  cells = λ a x e. absurd (none_at m a x e);
-}
-
 take_none : {X : Type 0} (xs : List (Option X)) (i : ℕ) → i < length xs → take i xs ≡ replicate i None → take (suc i) (slice_set xs i None) ≡ replicate (suc i) None
 take_none [] i h e = absurd (omega (arith, h))
 take_none (x ∷ xs) zero h e = refl
@@ -249,7 +230,7 @@ next_is all left k n at within is =
     let here = one_at all k less in
     record {
       part = here.0;
-      last = is ∙ (ap (λ m. take m all) k_is ∙ take_one all k here.0 here.1);
+      last = is ∙ (ap (λ m. take m all) k_is ∙ take_next all k here.0 here.1);
       there = slice_get-map shown all k ∙ ap (option_map shown) here.1;
       front = length_take all k (omega (arith, less));
       within = subst (λ m. k < m) (sym (length-map all shown)) less;

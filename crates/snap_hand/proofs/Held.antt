@@ -4,24 +4,15 @@ use Rattle.std.proofs.Common.{◌≡◌, ℕ, zero, suc, ◌+◌, ◌<◌, nat_l
 use Rattle.std.proofs.lemmas.List.{length-map}
 use Rattle.std.proofs.lemmas.Bool.{ltb-false, ltb-true}
 use Rattle.std.proofs.lemmas.Option.{slice_get_past, slice_get_read}
+use Rattle.snap_base.proofs.Options.{some_there, there_at}
+use Rattle.snap_base.proofs.Lists.{get_left, get_behind}
 use Rattle.aml_slice.specs.Controls.{Rest}
 use Rattle.book_part.specs.Halves.{Halves}
 use Rattle.log_set.specs.Logs.{LogList}
 use Rattle.protocol.specs.Events.{log, cell}
 use Rattle.protocol.specs.Parts.{Ring, Post, Desk, Cell}
 use Rattle.snap_hand.specs.Hands.{Parts, Has, IsWhole}
-use Rattle.snap_hand.proofs.InLists.{in_front, behind, behind_four}
-
--- one is there of which it is not said that it is not
-some_there : {X : Type 0} (o : Option X) → (Some (is_some o) ≡ Some false → ⊥) → (x : X) × (o ≡ Some x)
-some_there None h = absurd (h refl)
-some_there (Some x) h = (x, refl)
-
-pub there_at : {X : Type 0} (xs : List (Option X)) (i : ℕ) → i < length xs → (slice_get (map is_some xs) i ≡ Some false → ⊥) → (x : X) × (slice_get xs i ≡ Some (Some x))
-there_at [] i h f = absurd (omega (arith, h))
-there_at (None ∷ xs) zero h f = absurd (f refl)
-there_at (Some x ∷ xs) zero h f = (x, refl)
-there_at (o ∷ xs) (suc i) h f = there_at xs i (omega (arith, h)) f
+use Rattle.snap_hand.proofs.InLists.{behind_four}
 
 pub ring_there : (h : Parts) → Has h 0 → (x : Ring) × (h.ring ≡ Some x)
 ring_there h f = some_there h.ring f
@@ -40,12 +31,12 @@ there_behind : (h : Parts) (i n : ℕ) → n ≡ 4 + i → Has h n → slice_get
 there_behind h i n same f e = f (behind_four (is_some h.ring) (is_some h.book) (is_some h.post) (is_some h.desk) (map is_some h.logs ++ map is_some h.cells) i n same ∙ e)
 
 pub log_there : (h : Parts) (l : ℕ) → Has h (log l) → l < length h.logs → (x : LogList) × (slice_get h.logs l ≡ Some (Some x))
-log_there h l f within = there_at h.logs l within (λ e. there_behind h l (log l) refl f (in_front (map is_some h.logs) (map is_some h.cells) l (subst (λ n. l < n) (sym (length-map h.logs is_some)) within) ∙ e))
+log_there h l f within = there_at h.logs l within (λ e. there_behind h l (log l) refl f (get_left (map is_some h.logs) (map is_some h.cells) l (subst (λ n. l < n) (sym (length-map h.logs is_some)) within) ∙ e))
 
 pub cell_there : (h : Parts) (logs a : ℕ) → length h.logs ≡ logs → Has h (cell logs a) → a < length h.cells → (x : Cell Rest) × (slice_get h.cells a ≡ Some (Some x))
 cell_there h logs a same f within =
     there_at h.cells a within (λ e. there_behind h (logs + a) (cell logs a) (omega arith) f
-    (behind (map is_some h.logs) (map is_some h.cells) a (logs + a) (ap (λ n. n + a) (sym same ∙ sym (length-map h.logs is_some))) ∙ e))
+    (get_behind (map is_some h.logs) (map is_some h.cells) a (logs + a) (ap (λ n. n + a) (sym same ∙ sym (length-map h.logs is_some))) ∙ e))
 
 -- where all parts are at hand, some of them are
 pub all_here : (h : Parts) → IsWhole h → (is : List ℕ) → AllByRecursion (Has h) is

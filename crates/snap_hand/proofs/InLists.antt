@@ -1,7 +1,7 @@
 -- Places of lists.
 use Rattle.std.proofs.lemmas.List.{length-map}
 use Rattle.std.proofs.lemmas.Option.{slice_get_read, slice_get_within}
-use Rattle.std.proofs.Common.{◌≡◌, ◌≢◌, ℕ, zero, suc, ◌+◌, ◌<◌, get_or, Some, List, [], ◌∷◌, ◌++◌, length, map, slice_get, slice_set, refl, ap, subst, arith}
+use Rattle.std.proofs.Common.{◌≡◌, ◌≢◌, ℕ, zero, suc, ◌+◌, ◌<◌, get_or, Some, List, [], ◌∷◌, length, map, slice_get, slice_set, refl, ap, subst, arith}
 
 pub set_other : {X : Type 0} (xs : List X) (i j : ℕ) (y : X) → j ≢ i → slice_get (slice_set xs i y) j ≡ slice_get xs j
 set_other [] i j y n = refl
@@ -14,16 +14,6 @@ pub set_same : {X : Type 0} (xs : List X) (i : ℕ) (y x : X) → slice_get (sli
 set_same [] i y x h = absurd (cc h)
 set_same (z ∷ xs) zero y x h = cc h
 set_same (z ∷ xs) (suc i) y x h = set_same xs i y x h
-
-pub in_front : {X : Type 0} (xs ys : List X) (i : ℕ) → i < length xs → slice_get (xs ++ ys) i ≡ slice_get xs i
-in_front [] ys i h = absurd (omega (arith, h))
-in_front (x ∷ xs) ys zero h = refl
-in_front (x ∷ xs) ys (suc i) h = in_front xs ys i (omega (arith, h))
-
-pub behind : {X : Type 0} (xs ys : List X) (i n : ℕ) → n ≡ length xs + i → slice_get (xs ++ ys) n ≡ slice_get ys i
-behind [] ys i n e = ap (slice_get ys) (omega (arith, e))
-behind (x ∷ xs) ys i zero e = absurd (omega (arith, e))
-behind (x ∷ xs) ys i (suc n) e = behind xs ys i n (omega (arith, e))
 
 -- what is read at a place at which something shows stands there
 pub there_is : {X Y : Type 0} (f : X → Y) (xs : List X) (i : ℕ) (x : X) (y : Y) → x ≡ get_or xs i x → slice_get (map f xs) i ≡ Some y → slice_get xs i ≡ Some x

@@ -1,6 +1,5 @@
 -- Events at a log of the hand: the log by the number that writes to it, and what is put back beside it.
-use Rattle.std.proofs.Common.{◌≡◌, ℕ, ◌<◌, ◌%◌, true, Some, None, Result, Ok, Err, OnOk, OnErr, IfErr, length, slice_get, slice_set, sym, ap, subst, ◌∙◌}
-use Rattle.std.proofs.Math.Nat.{mod-lt}
+use Rattle.std.proofs.Common.{◌≡◌, ℕ, ◌%◌, true, Some, None, Result, Ok, Err, OnOk, OnErr, IfErr, slice_get, slice_set, sym, ap, subst, ◌∙◌}
 use Rattle.aml_slice.specs.Controls.{Rest}
 use Rattle.book_part.specs.Halves.{Halves}
 use Rattle.cell_part.specs.Room.{Roomed}
@@ -11,21 +10,14 @@ use Rattle.log_set.specs.Logs.{LogList, PendingState}
 use Rattle.protocol.specs.Conditions.{IsAllowed}
 use Rattle.protocol.specs.Effects.{after}
 use Rattle.protocol.specs.Events.{Event, log}
-use Rattle.protocol.specs.Fixed.{Fixed, IsText}
+use Rattle.protocol.specs.Fixed.{Fixed}
 use Rattle.protocol.specs.Parts.{Cell, Desk, Log, Machine}
-use Rattle.snap_hand.specs.Hands.{Parts, Fits, IsHandOf, Has, are_there}
+use Rattle.snap_hand.specs.Hands.{Parts, Fits, IsHandOf, are_there}
 use Rattle.snap_hand.specs.Steps.{IsTakenOn, IsStep, may_want}
-use Rattle.snap_hand.proofs.Held.{log_there}
 use Rattle.snap_hand.proofs.Refits.{book_back, cell_back, desk_back, log_back, hand_with_book, hand_with_cell, hand_with_desk, hand_with_log, same_back, there_with_book, there_with_cell, there_with_desk, there_with_log}
 use Rattle.snap_hand.proofs.Stepping.{stepped, stepped_freely}
 
 -- ---- the log that a number writes to
-
-pub log_in : (w : Fixed Rest) (h : Parts) (n l : ℕ) → IsText w.text → IsHandOf w h → l ≡ n % w.text.logs → l < length h.logs
-log_in w h n l t i e = subst (λ m. l < m) (sym i.logs) (subst (λ m. m < w.text.logs) (sym e) (mod-lt n t.some_logs))
-
-pub log_held : (w : Fixed Rest) (h : Parts) (n l : ℕ) → IsText w.text → IsHandOf w h → l ≡ n % w.text.logs → Has h (log (n % w.text.logs)) → (x : LogList) × (slice_get h.logs l ≡ Some (Some x))
-log_held w h n l t i e has = log_there h l (subst (λ m. Has h (log m)) (sym e) has) (log_in w h n l t i e)
 
 pub log_shown : (h : Parts) (s : Machine Rest) → Fits h s → (l k : ℕ) → l ≡ k → (p : PendingState) → slice_get h.logs l ≡ Some (Some p.log) → ShowsLogAt k p s
 log_shown h s f l k e p there = subst (λ m. ShowsLogAt m p s) e (f.logs l p.log there)

@@ -4,13 +4,15 @@ use Rattle.std.specs.Option.{option_flatten}
 use Rattle.std.proofs.lemmas.Bool.{lt-ltb, le-ltb, ltb-true, ltb-false}
 use Rattle.std.proofs.lemmas.List.{length-map, map-set, set-append_left, set-append_right}
 use Rattle.std.proofs.lemmas.Option.{slice_get_past, slice_get_read}
+use Rattle.snap_base.proofs.Lists.{get_left, get_behind}
+use Rattle.snap_base.proofs.Options.{is_some_map}
 use Rattle.aml_slice.specs.Controls.{Rest}
 use Rattle.book_part.specs.Halves.{Halves}
 use Rattle.log_set.specs.Logs.{LogList}
 use Rattle.protocol.specs.Parts.{Ring, Post, Desk, Cell}
 use Rattle.snap_hand.specs.Hands.{Parts, are_there}
 use Rattle.snap_hand.specs.Shown.{Shown, TheRing, TheBook, ThePost, TheDesk, TheLog, TheCell, places, part_at, without, without_behind, with_part, Belongs}
-use Rattle.snap_hand.proofs.InLists.{in_front, behind, behind_four}
+use Rattle.snap_hand.proofs.InLists.{behind_four}
 use Rattle.snap_hand.proofs.Refits.{same_back}
 
 -- ---- places that show something
@@ -72,12 +74,12 @@ log_count h = length-map h.logs (option_map (λ x. TheLog x))
 stands_behind : (h : Parts) (i n : ℕ) (p : Shown) → n ≡ 4 + i → (b : Bool) → nat_lt i (length h.logs) ≡ b → option_flatten (slice_get (log_places h ++ cell_places h) i) ≡ Some p → Stands h n p
 stands_behind h i n p at true lt is =
     let here = shown_there (λ x. TheLog x) h.logs i p
-    (ap option_flatten (sym (in_front (log_places h) (cell_places h) i (subst (λ m. i < m) (sym (log_count h)) (ltb-true i (length h.logs) lt)))) ∙ is) in
+    (ap option_flatten (sym (get_left (log_places h) (cell_places h) i (subst (λ m. i < m) (sym (log_count h)) (ltb-true i (length h.logs) lt)))) ∙ is) in
     AtLog i here.0 at (ltb-true i (length h.logs) lt) here.1.0 here.1.1
 stands_behind h i n p at false lt is =
     let le : length h.logs ≤ i = ltb-false i (length h.logs) lt in
     let here = shown_there (λ x. TheCell x) h.cells (i - length h.logs) p
-    (ap option_flatten (sym (behind (log_places h) (cell_places h) (i - length h.logs) i
+    (ap option_flatten (sym (get_behind (log_places h) (cell_places h) (i - length h.logs) i
     (let e : i ≡ length h.logs + (i - length h.logs) = omega (arith, le) in e ∙ ap (λ m. m + (i - length h.logs)) (sym (log_count h))))) ∙ is) in
     AtCell (i - length h.logs) here.0 (let e : n ≡ 4 + length h.logs + (i - length h.logs) = omega (arith, le, at) in e) here.1.0 here.1.1
 
@@ -205,10 +207,6 @@ there_shown g [] = refl
 there_shown g (None ∷ ys) = ap (λ bs. false ∷ bs) (there_shown g ys)
 there_shown g (Some y ∷ ys) = ap (λ bs. true ∷ bs) (there_shown g ys)
 
-there_one : {Y Z : Type 0} (g : Y → Z) (o : Option Y) → is_some (option_map g o) ≡ is_some o
-there_one g None = refl
-there_one g (Some y) = refl
-
 map_both : (ls cs : List (Option Shown)) (xs ys : List Bool) → map is_some ls ≡ xs → map is_some cs ≡ ys → map is_some (ls ++ cs) ≡ xs ++ ys
 map_both [] cs xs ys front rest = rest ∙ ap (λ z. z ++ ys) front
 map_both (o ∷ ls) cs xs ys front rest = ap (λ bs. is_some o ∷ bs) (map_both ls cs (map is_some ls) ys refl rest) ∙ ap (λ z. z ++ ys) front
@@ -217,8 +215,8 @@ pub places_tell : (h : Parts) → map is_some (places h) ≡ are_there h
 places_tell h =
     let behind_four : map is_some (log_places h ++ cell_places h) ≡ map is_some h.logs ++ map is_some h.cells =
     map_both (log_places h) (cell_places h) (map is_some h.logs) (map is_some h.cells) (there_shown (λ x. TheLog x) h.logs) (there_shown (λ x. TheCell x) h.cells) in
-    ap (λ b. b ∷ is_some (option_map (λ x. TheBook x) h.book) ∷ is_some (option_map (λ x. ThePost x) h.post) ∷ is_some (option_map (λ x. TheDesk x) h.desk) ∷ map is_some (log_places h ++ cell_places h)) (there_one (λ x. TheRing x) h.ring)
-    ∙ (ap (λ b. is_some h.ring ∷ b ∷ is_some (option_map (λ x. ThePost x) h.post) ∷ is_some (option_map (λ x. TheDesk x) h.desk) ∷ map is_some (log_places h ++ cell_places h)) (there_one (λ x. TheBook x) h.book)
-    ∙ (ap (λ b. is_some h.ring ∷ is_some h.book ∷ b ∷ is_some (option_map (λ x. TheDesk x) h.desk) ∷ map is_some (log_places h ++ cell_places h)) (there_one (λ x. ThePost x) h.post)
-    ∙ (ap (λ b. is_some h.ring ∷ is_some h.book ∷ is_some h.post ∷ b ∷ map is_some (log_places h ++ cell_places h)) (there_one (λ x. TheDesk x) h.desk)
+    ap (λ b. b ∷ is_some (option_map (λ x. TheBook x) h.book) ∷ is_some (option_map (λ x. ThePost x) h.post) ∷ is_some (option_map (λ x. TheDesk x) h.desk) ∷ map is_some (log_places h ++ cell_places h)) (is_some_map (λ x. TheRing x) h.ring)
+    ∙ (ap (λ b. is_some h.ring ∷ b ∷ is_some (option_map (λ x. ThePost x) h.post) ∷ is_some (option_map (λ x. TheDesk x) h.desk) ∷ map is_some (log_places h ++ cell_places h)) (is_some_map (λ x. TheBook x) h.book)
+    ∙ (ap (λ b. is_some h.ring ∷ is_some h.book ∷ b ∷ is_some (option_map (λ x. TheDesk x) h.desk) ∷ map is_some (log_places h ++ cell_places h)) (is_some_map (λ x. ThePost x) h.post)
+    ∙ (ap (λ b. is_some h.ring ∷ is_some h.book ∷ is_some h.post ∷ b ∷ map is_some (log_places h ++ cell_places h)) (is_some_map (λ x. TheDesk x) h.desk)
     ∙ ap (λ bs. is_some h.ring ∷ is_some h.book ∷ is_some h.post ∷ is_some h.desk ∷ bs) behind_four)))

@@ -2,6 +2,7 @@
 use Rattle.std.proofs.Common.{◌≡◌, ℕ, zero, suc, ◌≤◌, Bool, true, false, Option, Some, is_some, List, [], ◌∷◌, ◌++◌, length, map, replicate, slice_get, refl, sym, ap, subst, ◌∙◌, arith}
 use Rattle.std.proofs.lemmas.List.{length-map, length-replicate}
 use Rattle.snap_base.specs.declared.transactions.State.{State}
+use Rattle.snap_base.proofs.Options.{is_same_some}
 use Rattle.aml_slice.specs.Controls.{Rest}
 use Rattle.book_part.specs.Halves.{Halves, Shows}
 use Rattle.log_set.specs.Shown.{ShowsLog}
@@ -12,9 +13,6 @@ use Rattle.protocol.specs.Parts.{Ring, Post, Desk, Cell}
 use Rattle.protocol.specs.Runs.{new_cell, opening, opening_book}
 use Rattle.snap_hand.specs.Hands.{Parts, Fits, IsHandOf, IsWhole, are_there}
 use Rattle.snap_hand.specs.Openings.{only_lists, opening_halves, opening_lists, with_opening_others, with_others}
-
-some_is : {X : Type 0} {x y : X} → Some x ≡ Some y → x ≡ y
-some_is h = cc h
 
 -- ---- all are there
 
@@ -74,11 +72,11 @@ no_log_shown = record { keys = refl; synced = refl; within = omega arith; waitin
 
 pub opening_fits : (w : Fixed Rest) → Shows (opening_halves w) (opening_book w) → Fits (opening_parts w) (opening w)
 opening_fits w shows = record {
-  ring = λ x e. some_is e;
-  book = λ x e. subst (λ h. Shows h (opening_book w)) (some_is e) shows;
-  post = λ x e. some_is e;
-  desk = λ x e. some_is e;
-  logs = λ l x e. (no_log, (same_at w.text.logs no_log (Some no_records) (Some x) l e, subst (λ z. ShowsLog z no_log) (some_is (made_at w.text.logs (Some no_records) (Some x) l e)) no_log_shown));
+  ring = λ x e. is_same_some e;
+  book = λ x e. subst (λ h. Shows h (opening_book w)) (is_same_some e) shows;
+  post = λ x e. is_same_some e;
+  desk = λ x e. is_same_some e;
+  logs = λ l x e. (no_log, (same_at w.text.logs no_log (Some no_records) (Some x) l e, subst (λ z. ShowsLog z no_log) (is_same_some (made_at w.text.logs (Some no_records) (Some x) l e)) no_log_shown));
   cells = λ a x e. mapped_at (new_cell (base w.text)) w.text.opening.states a x e;
 }
 
@@ -86,7 +84,7 @@ pub opening_places : (w : Fixed Rest) → IsHandOf w (opening_parts w)
 opening_places w = record {
   logs = length-replicate w.text.logs (Some no_records);
   cells = length-map w.text.opening.states (λ s. Some (new_cell {C = Rest} (base w.text) s));
-  room = λ x e. subst (λ (h : Halves). length w.text.txs ≤ h.most) (some_is e) (omega arith);
+  room = λ x e. subst (λ (h : Halves). length w.text.txs ≤ h.most) (is_same_some e) (omega arith);
 }
 
 pub opening_whole : (w : Fixed Rest) → IsWhole (opening_parts w)

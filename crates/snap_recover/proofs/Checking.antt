@@ -1,6 +1,6 @@
 -- That nothing is lacking, asked of one batch or ACT after the other in the order of their numbers.
-use Rattle.std.proofs.Common.{◌≡◌, ℕ, zero, suc, ◌+◌, ◌%◌, ◌<◌, ◌≤◌, ◌⊎◌, inl, inr, Bool, true, false, ◌||◌, Option, None, Result, Ok, Err, MatchResult, List, [], ◌∷◌, ◌++◌, length, take, get_or, refl, sym, ap, subst, ◌∙◌, arith}
-use Rattle.std.proofs.lemmas.Bool.{cases_lt}
+use Rattle.std.proofs.Common.{◌≡◌, ℕ, zero, suc, ◌+◌, ◌%◌, ◌<◌, ◌≤◌, inl, inr, Bool, true, ◌||◌, Option, None, Result, Ok, Err, MatchResult, List, [], ◌∷◌, ◌++◌, length, take, get_or, refl, sym, ap, subst, ◌∙◌, arith}
+use Rattle.std.proofs.lemmas.Bool.{cases_lt, or_right, or_cases}
 use Rattle.std.proofs.lemmas.List.{get_or-take, length-take, get_or_default}
 use Rattle.std.proofs.lemmas.Map.Keys.{below_from_sorted}
 use Rattle.std.specs.List.{AllByRecursion, Contains, list_any}
@@ -11,6 +11,7 @@ use Rattle.std.specs.BTreeSet.{BTreeSet}
 use Rattle.std.specs.BTreeMap.{is_at}
 use Rattle.snap_base.specs.declared.ids.ActorId.{ActorId}
 use Rattle.snap_base.specs.declared.ids.Bid.{Bid}
+use Rattle.snap_base.proofs.Lists.{weaker}
 use Rattle.txn_records.specs.declared.records.Record.{Record}
 use Rattle.txn_records.specs.declared.keys.Key.TheVariants as keys
 use Rattle.snap_recover.specs.declared.kinds.Kind.{Kind}
@@ -20,7 +21,7 @@ use Rattle.snap_recover.specs.declared.refusals.RecoverNo.TheVariants.{NoGenesis
 use Rattle.snap_recover.specs.Logs.{HasKey, log_of}
 use Rattle.snap_recover.specs.Opening.{IsInfoOf, HasCompleted, IsActOf, HasPrepared}
 use Rattle.snap_recover.specs.Passes.{bid_at, tid_at, InPair, commit_key, part_key, info_key, HasCommitted, HasAllParts, IsLastPlaced, TellsActors, MemberWhole, MemberLacks, IsLackOf, IsFirstLackOfKind, IsFirstLackOf, AllWhole, IsAllWhole, HasIn}
-use Rattle.snap_recover.proofs.Lists.{all_weaker, all_contains, contains_here, contains_there}
+use Rattle.snap_recover.proofs.Lists.{all_contains, contains_here, contains_there}
 use Rattle.snap_recover.proofs.Homes.{at_log, at_true, at_same}
 use Rattle.snap_recover.proofs.Placing.{placed_some}
 use Rattle.snap_recover.proofs.Steps.{all_step, all_end}
@@ -49,7 +50,7 @@ lacks_part kinds.Batch logs n actors set a (tids, info) has (front, behind, is, 
       a,
       tids,
       subst (λ (z : List ActorId). IsInfoOf logs (bid_at n) z tids) is info,
-      all_weaker (λ (b : ActorId). InPair set (n, b.0)) (HasCompleted logs (bid_at n)) front (λ b h. (has (n, b.0)).0 h) all,
+      weaker (λ (b : ActorId). InPair set (n, b.0)) (HasCompleted logs (bid_at n)) front (λ b h. (has (n, b.0)).0 h) all,
       refl,
       refl,
       λ h. out ((has (n, a.0)).1 h),
@@ -62,7 +63,7 @@ lacks_part kinds.Act logs n actors set a (m, c, v, act) has (front, behind, is, 
   c,
   v,
   subst (λ (z : List ActorId). IsActOf logs (tid_at n) m c v z) is act,
-  all_weaker (λ (b : ActorId). InPair set (n, b.0)) (HasPrepared logs (tid_at n)) front (λ b h. (has (n, b.0)).0 h) all,
+  weaker (λ (b : ActorId). InPair set (n, b.0)) (HasPrepared logs (tid_at n)) front (λ b h. (has (n, b.0)).0 h) all,
   refl,
   refl,
   λ h. out ((has (n, a.0)).1 h),
@@ -71,19 +72,11 @@ lacks_part kinds.Act logs n actors set a (m, c, v, act) has (front, behind, is, 
 pub member_whole : (kind : Kind) (logs : List (List Record)) (n : ℕ) (actors : List ActorId) (set : BTreeSet (ℕ × ℕ)) → TellsActors kind n (log_of logs n) actors → HasAllParts kind logs set
     → AllByRecursion (λ (b : ActorId). InPair set (n, b.0)) actors → MemberWhole kind logs n
 member_whole kinds.Batch logs n actors set (tids, info) has all =
-    (actors, tids, info, all_weaker (λ (b : ActorId). InPair set (n, b.0)) (HasCompleted logs (bid_at n)) actors (λ b h. (has (n, b.0)).0 h) all)
+    (actors, tids, info, weaker (λ (b : ActorId). InPair set (n, b.0)) (HasCompleted logs (bid_at n)) actors (λ b h. (has (n, b.0)).0 h) all)
 member_whole kinds.Act logs n actors set (m, c, v, act) has all =
-    (m, c, v, actors, act, all_weaker (λ (b : ActorId). InPair set (n, b.0)) (HasPrepared logs (tid_at n)) actors (λ b h. (has (n, b.0)).0 h) all)
+    (m, c, v, actors, act, weaker (λ (b : ActorId). InPair set (n, b.0)) (HasPrepared logs (tid_at n)) actors (λ b h. (has (n, b.0)).0 h) all)
 
 -- ---- the keys of a set
-
-or_right : (a b : Bool) → b ≡ true → (a || b) ≡ true
-or_right true b e = refl
-or_right false b e = e
-
-or_cases : (a b : Bool) → (a || b) ≡ true → (a ≡ true) ⊎ (b ≡ true)
-or_cases true b e = inl refl
-or_cases false b e = inr e
 
 pub in_keys : {K : Type 0} (cmp : K → K → Ordering) → ((k : K) → is_at (cmp k) k ≡ true) → (xs : List K) (x : K) → Contains xs x → list_any (is_at (cmp x)) xs ≡ true
 in_keys cmp same [] x (k, l, e) = absurd (omega arith)

@@ -7,6 +7,7 @@ use Rattle.snap_base.specs.declared.ids.ActorId.{ActorId}
 use Rattle.snap_base.specs.declared.ids.Bid.{Bid}
 use Rattle.snap_base.specs.declared.ids.Tid.{Tid}
 use Rattle.snap_base.specs.declared.transactions.State.{State}
+use Rattle.snap_base.proofs.Lists.{all_front, all_back}
 use Rattle.txn_records.specs.declared.records.Record.{Record}
 use Rattle.txn_records.specs.declared.records.Record.TheVariants.{Genesis, BatchInfo, BatchDone}
 use Rattle.txn_records.specs.declared.keys.Key.{Key}
@@ -18,7 +19,7 @@ use Rattle.snap_recover.specs.declared.refusals.RecoverNo.TheVariants.{NoGenesis
 use Rattle.snap_recover.specs.Logs.{all_of, log_of, HasKey, geneses}
 use Rattle.snap_recover.specs.Opening.{IsInfoOf, FitsTids, HasItsValues, HasCompleted, IsBatchWhole, HasPrepared, IsActWhole, IsInRange, AreBegunWith, IsRecovered}
 use Rattle.snap_recover.specs.Refusals.{IsFirstOutOfRange, LacksInfo, LacksComplete, LacksPrepare, LacksValues, IsFirstLackingValues, NoneMissing, IsFirstBatchLacking, IsFirstActLacking, IsFirstLacking, IsRefused}
-use Rattle.snap_recover.proofs.Lists.{one_first, all_left, all_right, all_middle, contains_map, contains_middle}
+use Rattle.snap_recover.proofs.Lists.{one_first, all_middle, contains_map, contains_middle}
 use Rattle.snap_recover.proofs.OneOpening.{one_info, one_commit, one_act, same_bid, same_tid, one_first_states}
 
 -- ---- the record that is not in range
@@ -29,17 +30,17 @@ InRange n rs = AllByRecursion (IsInRange n) rs
 
 each_log : (n : ℕ) (logs : List (List Record)) → InRange n (all_of logs) → AllByRecursion (InRange n) logs
 each_log n [] h = tt
-each_log n (rs ∷ logs) h = (all_left (IsInRange n) rs (all_of logs) h, each_log n logs (all_right (IsInRange n) rs (all_of logs) h))
+each_log n (rs ∷ logs) h = (all_front (IsInRange n) rs (all_of logs) h, each_log n logs (all_back (IsInRange n) rs (all_of logs) h))
 
 bad_log : (n : ℕ) (front behind : List Record) (r : Record) → ¬ IsInRange n r → ¬ InRange n (front ++ r ∷ behind)
 bad_log n front behind r bad h = bad (all_middle (IsInRange n) front r behind h)
 
 pub one_out_of_range : (n : ℕ) (logs : List (List Record)) (r s : Record) (k l : ℕ) → IsFirstOutOfRange n logs r k → IsFirstOutOfRange n logs s l → (r ≡ s) × (k ≡ l)
 one_out_of_range n logs r s k l (b1, a1, f1, h1, e1, k1, i1, o1) (b2, a2, f2, h2, e2, k2, i2, o2) =
-    let d1 : InRange n (all_of b1) = all_left (IsInRange n) (all_of b1) f1 i1 in
-    let d2 : InRange n (all_of b2) = all_left (IsInRange n) (all_of b2) f2 i2 in
-    let g1 : InRange n f1 = all_right (IsInRange n) (all_of b1) f1 i1 in
-    let g2 : InRange n f2 = all_right (IsInRange n) (all_of b2) f2 i2 in
+    let d1 : InRange n (all_of b1) = all_front (IsInRange n) (all_of b1) f1 i1 in
+    let d2 : InRange n (all_of b2) = all_front (IsInRange n) (all_of b2) f2 i2 in
+    let g1 : InRange n f1 = all_back (IsInRange n) (all_of b1) f1 i1 in
+    let g2 : InRange n f2 = all_back (IsInRange n) (all_of b2) f2 i2 in
     let outer = one_first (InRange n) b1 a1 b2 a2 (f1 ++ r ∷ h1) (f2 ++ s ∷ h2) (sym e1 ∙ e2) (each_log n b1 d1) (each_log n b2 d2) (bad_log n f1 h1 r o1) (bad_log n f2 h2 s o2) in
     let inner = one_first (IsInRange n) f1 h1 f2 h2 r s outer.1 g1 g2 o1 o2 in
     (inner.1, k1 ∙ ap (λ (z : List (List Record)). length z) outer.0 ∙ sym k2)
@@ -49,8 +50,8 @@ in_range_all n logs r k (b, a, f, h, e, ek, i, o) all =
     let P : List Record → Type 0 = InRange n in
     let apart : InRange n (all_of b ++ all_of ((f ++ r ∷ h) ∷ a)) =
     subst P (flat_map-append (λ (rs : List Record). rs) b ((f ++ r ∷ h) ∷ a)) (subst (λ (z : List (List Record)). InRange n (all_of z)) e all) in
-    let behind = all_right (IsInRange n) (all_of b) (all_of ((f ++ r ∷ h) ∷ a)) apart in
-    bad_log n f h r o (all_left (IsInRange n) (f ++ r ∷ h) (all_of a) behind)
+    let behind = all_back (IsInRange n) (all_of b) (all_of ((f ++ r ∷ h) ∷ a)) apart in
+    bad_log n f h r o (all_front (IsInRange n) (f ++ r ∷ h) (all_of a) behind)
 
 -- ---- the key that is lacking
 

@@ -10,6 +10,7 @@ use Rattle.std.specs.Map.{lookup}
 use Rattle.std.specs.BTreeMap.{BTreeMap, is_at}
 use Rattle.snap_base.specs.declared.ids.Bid.{Bid}
 use Rattle.snap_base.specs.declared.ids.Tid.{Tid}
+use Rattle.snap_base.proofs.Lists.{all_join}
 use Rattle.txn_records.specs.declared.records.Record.{Record}
 use Rattle.txn_records.specs.declared.keys.Key.{Key}
 use Rattle.txn_records.specs.Records.{key}
@@ -17,7 +18,7 @@ use Rattle.snap_recover.specs.declared.kinds.Kind.{Kind}
 use Rattle.snap_recover.specs.declared.kinds.Kind.TheVariants as kinds
 use Rattle.snap_recover.specs.Logs.{HasKey, log_of}
 use Rattle.snap_recover.specs.Passes.{IsLastPlaced, IsPlacedBy, AddsInfo, AddsInfos, HasInfos, info_key, commit_key, bid_at, tid_at}
-use Rattle.snap_recover.proofs.Lists.{all_append, all_contains, contains_unmap}
+use Rattle.snap_recover.proofs.Lists.{all_contains, contains_unmap}
 use Rattle.snap_recover.proofs.Homes.{at_log, below_cases, at_same}
 use Rattle.snap_recover.proofs.Steps.{taken}
 
@@ -33,10 +34,10 @@ placed_quiet k rs r old new h (inl (place, e, (front, behind, x, is, at, it, qui
         ap (λ (z : List Record). z ++ r ∷ []) is ∙ append_assoc front (x ∷ behind) (r ∷ []),
         at,
         it,
-        all_append (λ y. key y ≢ k) behind (r ∷ []) quiet (h, tt),
+        all_join (λ y. key y ≢ k) behind (r ∷ []) quiet (h, tt),
       ),
     )
-placed_quiet k rs r old new h (inr (quiet, e)) = inr (all_append (λ y. key y ≢ k) rs (r ∷ []) quiet (h, tt), e)
+placed_quiet k rs r old new h (inr (quiet, e)) = inr (all_join (λ y. key y ≢ k) rs (r ∷ []) quiet (h, tt), e)
 
 placed_here : (k : Key) (place : ℕ) (rs : List Record) (r : Record) (old : Option ℕ) → key r ≡ k → place ≡ length rs → IsLastPlaced k (rs ++ r ∷ []) old (Some place)
 placed_here k place rs r old it at = inl (place, refl, (rs, [], r, refl, at, it, tt))

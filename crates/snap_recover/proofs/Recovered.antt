@@ -3,13 +3,14 @@ use Rattle.std.proofs.Common.{◌≡◌, ℕ, ◌+◌, ◌%◌, ◌≤◌, inl, 
 use Rattle.std.proofs.lemmas.List.Elements.{recursion_from_All, All-from_recursion, All-filter}
 use Rattle.std.specs.List.{AllByRecursion, AllZip, enumerate_from}
 use Rattle.snap_base.specs.declared.transactions.State.{State}
+use Rattle.snap_base.proofs.Lists.{all_join}
 use Rattle.txn_records.specs.declared.records.Record.{Record}
 use Rattle.txn_records.specs.declared.records.Record.TheVariants.{Genesis, BatchInfo, BatchComplete, BatchCommit, ActPrepare, ActCommit, BatchDone, ActDone}
 use Rattle.txn_records.specs.Records.{IsState, IsRecord, IsGenesis}
 use Rattle.snap_recover.specs.declared.openings.Opening.{Opening}
 use Rattle.snap_recover.specs.Logs.{all_of, is_genesis, states_in}
 use Rattle.snap_recover.specs.Opening.{IsStateOf, IsRecovered}
-use Rattle.snap_recover.proofs.Lists.{all_append, all_middle}
+use Rattle.snap_recover.proofs.Lists.{all_middle}
 
 each_or : {X : Type 0} (P : X → Type 0) (xs : List X) (n : ℕ) (d : X) → AllByRecursion P xs → P d → P (get_or xs n d)
 each_or P [] n d all none = none
@@ -18,7 +19,7 @@ each_or P (x ∷ xs) (suc n) d all none = each_or P xs n d all.1 none
 
 all_records : (logs : List (List Record)) → AllByRecursion (AllByRecursion IsRecord) logs → AllByRecursion IsRecord (all_of logs)
 all_records [] are = tt
-all_records (rs ∷ logs) are = all_append IsRecord rs (all_of logs) are.0 (all_records logs are.1)
+all_records (rs ∷ logs) are = all_join IsRecord rs (all_of logs) are.0 (all_records logs are.1)
 
 genesis_is : (logs : List (List Record)) (o : Opening) (recovered : IsRecovered logs o) → AllByRecursion (AllByRecursion IsRecord) logs → IsGenesis (length logs) recovered.begun.0
 genesis_is logs o recovered are =

@@ -6,13 +6,14 @@ use Rattle.std.proofs.lemmas.List.{get_or-set_same, get_or-set_other, length-set
 use Rattle.std.specs.List.{AllByRecursion, AllZip, enumerate_from}
 use Rattle.std.specs.BTreeSet.{BTreeSet}
 use Rattle.snap_base.specs.declared.transactions.State.{State}
+use Rattle.snap_base.proofs.Lists.{all_front, all_back}
 use Rattle.txn_records.specs.declared.records.Record.{Record}
 use Rattle.txn_records.specs.declared.records.Record.TheVariants.{Genesis, BatchInfo, BatchComplete, BatchCommit, ActPrepare, ActCommit, BatchDone, ActDone}
 use Rattle.snap_recover.specs.declared.kinds.Kind.TheVariants as kinds
 use Rattle.snap_recover.specs.Logs.{all_of, states_in}
 use Rattle.snap_recover.specs.Opening.{IsInRange, Counts, IsStateOf, AreStatesOf}
 use Rattle.snap_recover.specs.Passes.{In, HasCommitted, TellsState, StateOver, Replays}
-use Rattle.snap_recover.proofs.Lists.{all_left, all_right, all_of_each, all_middle}
+use Rattle.snap_recover.proofs.Lists.{all_of_each, all_middle}
 use Rattle.snap_recover.proofs.Homes.{at_log, below_cases}
 use Rattle.snap_recover.proofs.Steps.{taken, split_at, logs_split}
 use Rattle.snap_recover.proofs.StatesOver.{Agree, over_alike, over_quiet, over_counts}
@@ -133,4 +134,4 @@ states_end logs i first states some l h =
 -- the records of one log
 pub log_in_range : (n : ℕ) (logs : List (List Record)) (i : ℕ) (rs : List Record) → i < length logs → rs ≡ get_or logs i rs → AllByRecursion (IsInRange n) (all_of logs) → AllByRecursion (IsInRange n) rs
 log_in_range n logs i rs l at h =
-    all_left (IsInRange n) rs (all_of (drop (i + 1) logs)) (all_right (IsInRange n) (all_of (take i logs)) (rs ++ all_of (drop (i + 1) logs)) (subst (AllByRecursion (IsInRange n)) (logs_split logs i rs l at) h))
+    all_front (IsInRange n) rs (all_of (drop (i + 1) logs)) (all_back (IsInRange n) (all_of (take i logs)) (rs ++ all_of (drop (i + 1) logs)) (subst (AllByRecursion (IsInRange n)) (logs_split logs i rs l at) h))

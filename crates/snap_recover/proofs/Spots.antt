@@ -16,6 +16,7 @@ use Rattle.std.specs.BTreeMap.{is_at}
 use Rattle.snap_base.specs.declared.ids.ActorId.{ActorId}
 use Rattle.snap_base.specs.declared.ids.Bid.{Bid}
 use Rattle.snap_base.specs.declared.ids.Tid.{Tid}
+use Rattle.snap_base.proofs.Lists.{all_join, weaker}
 use Rattle.txn_records.specs.declared.records.Record.{Record}
 use Rattle.txn_records.specs.declared.keys.Key.{Key}
 use Rattle.txn_records.specs.declared.keys.Key.TheVariants as keys
@@ -24,7 +25,7 @@ use Rattle.snap_recover.specs.declared.openings.Kept.{Kept}
 use Rattle.snap_recover.specs.declared.openings.Kept.TheVariants as kept
 use Rattle.snap_recover.specs.Opening.{IsIn, IsActIn, IsActOf, commit_of, IsKeptIn, ComesBefore, IsCommitted}
 use Rattle.snap_recover.specs.Passes.{bid_at, tid_at, Spot, spot_cmp, InSpots, spot_of, IsBatchSpot, IsActSpot, AddsSpots, IsSpotIn, HasSpots, IsKeptAt, IsAllWhole}
-use Rattle.snap_recover.proofs.Lists.{all_append, all_weaker, contains_here, contains_left, contains_right, contains_append, contains_cases, contains_none, contains_map, contains_unmap}
+use Rattle.snap_recover.proofs.Lists.{contains_here, contains_left, contains_right, contains_append, contains_cases, contains_none, contains_map, contains_unmap}
 use Rattle.snap_recover.proofs.Homes.{Inserts}
 use Rattle.snap_recover.proofs.Checking.{AreNumbers, in_keys, keys_in}
 use Rattle.snap_recover.proofs.OneOpening.{one_act}
@@ -181,7 +182,7 @@ sorted_ascends [] s = λ i j d l m. absurd (omega arith)
 sorted_ascends (k ∷ ks) s =
     let low : AllByRecursion (λ (b : Kept). spot_cmp (spot_of k) (spot_of b) ≡ Less) ks = mapped spot_of (λ (y : Spot). spot_cmp (spot_of k) y ≡ Less) ks (sorted_head spot_cmp (spot_of k) (map spot_of ks) s) in
     let before : AllByRecursion (ComesBefore k) ks =
-    all_weaker (λ (b : Kept). spot_cmp (spot_of k) (spot_of b) ≡ Less) (ComesBefore k) ks (λ b e. before_kept k b (spot_less (spot_of k) (spot_of b) e)) low in
+    weaker (λ (b : Kept). spot_cmp (spot_of k) (spot_of b) ≡ Less) (ComesBefore k) ks (λ b e. before_kept k b (spot_less (spot_of k) (spot_of b) e)) low in
     AllPairs-cons ComesBefore k ks (All-from_recursion (ComesBefore k) ks before) (sorted_ascends ks (sorted_tail spot_cmp (spot_of k) (map spot_of ks) s))
 
 -- ---- so many of them
@@ -210,7 +211,7 @@ pub kept_step : (logs : List (List Record)) (spots : List Spot) (i : ℕ) (x : S
     → KeptThrough logs spots i ks → KeptThrough logs spots (i + 1) (ks ++ k ∷ [])
 kept_step logs spots i x ks k l at w h = record {
   are = map-append spot_of ks (k ∷ []) ∙ ap (λ (z : List Spot). z ++ spot_of k ∷ []) h.are ∙ ap (λ (z : Spot). take i spots ++ z ∷ []) w.at ∙ sym (taken spots i x l at);
-  each = all_append (IsKeptIn logs) ks (k ∷ []) h.each (w.is_kept, tt);
+  each = all_join (IsKeptIn logs) ks (k ∷ []) h.each (w.is_kept, tt);
 }
 
 pub spot_in : (logs : List (List Record)) (spots : List Spot) (i : ℕ) (x : Spot) → i < length spots → x ≡ get_or spots i x → AreSpots logs spots → IsSpotIn logs x

@@ -3,14 +3,15 @@ use Rattle.std.proofs.Common.{◌≡◌, ℕ, ◌+◌, ◌<◌, ◌≤◌, Bool,
 use Rattle.std.specs.Option.{is_some}
 use Rattle.std.specs.Ordering.{ord_max, nat_cmp}
 use Rattle.std.proofs.lemmas.Bool.Decides.{nat_tests}
-use Rattle.std.proofs.lemmas.List.{take_more, take_all, take-append-drop, drop_more, append-nil, map-append}
+use Rattle.std.proofs.lemmas.List.{take_more, take_all, take-append-drop, drop_more, map-append}
 use Rattle.std.proofs.lemmas.List.Elements.{filter-append}
 use Rattle.std.proofs.lemmas.List.Concat.{flat_map-append}
 use Rattle.std.specs.List.{AllByRecursion, filter, flat_map}
+pub use Rattle.snap_base.proofs.Lists.{all_step}
+use Rattle.snap_base.proofs.Lists.{flat_step}
 use Rattle.txn_records.specs.declared.records.Record.{Record}
 use Rattle.snap_recover.specs.Logs.{all_of, is_genesis, geneses}
 use Rattle.snap_recover.specs.Opening.{greatest}
-use Rattle.snap_recover.proofs.Lists.{all_append, all_middle}
 use Rattle.snap_recover.proofs.Greatest.{greatest_append}
 
 pub taken : {X : Type 0} (xs : List X) (i : ℕ) (x : X) → i < length xs → x ≡ get_or xs i x → take (i + 1) xs ≡ take i xs ++ x ∷ []
@@ -21,14 +22,8 @@ split_at xs i x l e = sym (take-append-drop i xs) ∙ ap (λ (z : List _). take 
 
 -- ---- what holds of all
 
-pub all_step : {X : Type 0} (P : X → Type 0) (xs : List X) (i : ℕ) (x : X) → i < length xs → x ≡ get_or xs i x → AllByRecursion P (take i xs) → P x → AllByRecursion P (take (i + 1) xs)
-all_step P xs i x l e h p = subst (AllByRecursion P) (sym (taken xs i x l e)) (all_append P (take i xs) (x ∷ []) h (p, tt))
-
 pub all_end : {X : Type 0} (P : X → Type 0) (xs : List X) (i : ℕ) → length xs ≤ i → AllByRecursion P (take i xs) → AllByRecursion P xs
 all_end P xs i l h = subst (AllByRecursion P) (take_all i xs l) h
-
-pub all_at : {X : Type 0} (P : X → Type 0) (xs : List X) (i : ℕ) (x : X) → i < length xs → x ≡ get_or xs i x → AllByRecursion P xs → P x
-all_at P xs i x l e h = all_middle P (take i xs) x (drop (i + 1) xs) (subst (AllByRecursion P) (split_at xs i x l e) h)
 
 pub mapped : {X Y : Type 0} (f : X → Y) (P : Y → Type 0) (xs : List X) → AllByRecursion P (map f xs) → AllByRecursion (λ x. P (f x)) xs
 mapped f P [] h = tt
@@ -38,9 +33,6 @@ mapped f P (x ∷ xs) h = (h.0, mapped f P xs h.1)
 
 pub filter_step : {X : Type 0} (p : X → Bool) (xs : List X) (i : ℕ) (x : X) → i < length xs → x ≡ get_or xs i x → filter p (take (i + 1) xs) ≡ filter p (take i xs) ++ filter p (x ∷ [])
 filter_step p xs i x l e = ap (filter p) (taken xs i x l e) ∙ filter-append p (take i xs) (x ∷ [])
-
-pub flat_step : {X Y : Type 0} (f : X → List Y) (xs : List X) (i : ℕ) (x : X) → i < length xs → x ≡ get_or xs i x → flat_map f (take (i + 1) xs) ≡ flat_map f (take i xs) ++ f x
-flat_step f xs i x l e = ap (flat_map f) (taken xs i x l e) ∙ flat_map-append f (take i xs) (x ∷ []) ∙ ap (λ (z : List _). flat_map f (take i xs) ++ z) (append-nil (f x))
 
 pub logs_step : (logs : List (List Record)) (i : ℕ) (rs : List Record) → i < length logs → rs ≡ get_or logs i rs → all_of (take (i + 1) logs) ≡ all_of (take i logs) ++ rs
 logs_step logs i rs l e = flat_step (λ (z : List Record). z) logs i rs l e

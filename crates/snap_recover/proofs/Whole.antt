@@ -2,6 +2,7 @@
 use Rattle.std.proofs.Common.{◌≡◌, ◌≢◌, ℕ, ◌<◌, ◌≤◌, min, List, [], ◌∷◌, ◌++◌, length, ap, arith}
 use Rattle.std.specs.List.{AllByRecursion, flat_map}
 use Rattle.snap_base.specs.declared.transactions.State.{State}
+use Rattle.snap_base.proofs.Lists.{all_front, all_back, weaker}
 use Rattle.txn_records.specs.declared.records.Record.{Record}
 use Rattle.snap_recover.specs.declared.refusals.RecoverNo.{RecoverNo}
 use Rattle.snap_recover.specs.declared.ranges.TheConstants.{GREATEST_NUMBER}
@@ -10,7 +11,6 @@ use Rattle.snap_recover.specs.Logs.{all_of, bids_in, tids_in, commits_in, genese
 use Rattle.snap_recover.specs.Opening.{IsInRange, AreBegunWith, greatest}
 use Rattle.snap_recover.specs.Refusals.{IsRefused}
 use Rattle.snap_recover.specs.Passes.{IsFirstLackOf, IsFirstValuesLackOf, IsLackOfBegun, IsAllWhole}
-use Rattle.snap_recover.proofs.Lists.{all_weaker, all_left, all_right}
 use Rattle.snap_recover.proofs.Greatest.{numbers_within}
 
 -- the numbers of one kind in records that are in range
@@ -19,17 +19,17 @@ Small numbers r = AllByRecursion (λ x. x ≤ GREATEST_NUMBER) (numbers r)
 
 pub bids_small : (n : ℕ) (logs : List (List Record)) → AllByRecursion (IsInRange n) (all_of logs) → greatest (flat_map bids_in (all_of logs)) ≤ GREATEST_NUMBER
 bids_small n logs h =
-    numbers_within bids_in (all_of logs) GREATEST_NUMBER (all_weaker (IsInRange n) (Small bids_in) (all_of logs) (λ r p. all_left (λ x. x ≤ GREATEST_NUMBER) (bids_in r) (commits_in r ++ tids_in r) p.numbers_below) h)
+    numbers_within bids_in (all_of logs) GREATEST_NUMBER (weaker (IsInRange n) (Small bids_in) (all_of logs) (λ r p. all_front (λ x. x ≤ GREATEST_NUMBER) (bids_in r) (commits_in r ++ tids_in r) p.numbers_below) h)
 
 pub commits_small : (n : ℕ) (logs : List (List Record)) → AllByRecursion (IsInRange n) (all_of logs) → greatest (flat_map commits_in (all_of logs)) ≤ GREATEST_NUMBER
 commits_small n logs h =
     numbers_within commits_in (all_of logs) GREATEST_NUMBER
-    (all_weaker (IsInRange n) (Small commits_in) (all_of logs) (λ r p. all_left (λ x. x ≤ GREATEST_NUMBER) (commits_in r) (tids_in r) (all_right (λ x. x ≤ GREATEST_NUMBER) (bids_in r) (commits_in r ++ tids_in r) p.numbers_below)) h)
+    (weaker (IsInRange n) (Small commits_in) (all_of logs) (λ r p. all_front (λ x. x ≤ GREATEST_NUMBER) (commits_in r) (tids_in r) (all_back (λ x. x ≤ GREATEST_NUMBER) (bids_in r) (commits_in r ++ tids_in r) p.numbers_below)) h)
 
 pub tids_small : (n : ℕ) (logs : List (List Record)) → AllByRecursion (IsInRange n) (all_of logs) → greatest (flat_map tids_in (all_of logs)) ≤ GREATEST_NUMBER
 tids_small n logs h =
     numbers_within tids_in (all_of logs) GREATEST_NUMBER
-    (all_weaker (IsInRange n) (Small tids_in) (all_of logs) (λ r p. all_right (λ x. x ≤ GREATEST_NUMBER) (commits_in r) (tids_in r) (all_right (λ x. x ≤ GREATEST_NUMBER) (bids_in r) (commits_in r ++ tids_in r) p.numbers_below)) h)
+    (weaker (IsInRange n) (Small tids_in) (all_of logs) (λ r p. all_back (λ x. x ≤ GREATEST_NUMBER) (commits_in r) (tids_in r) (all_back (λ x. x ≤ GREATEST_NUMBER) (bids_in r) (commits_in r ++ tids_in r) p.numbers_below)) h)
 
 pub some_logs : (logs : List (List Record)) (g : Record) (rest : List Record) → geneses logs ≡ g ∷ rest → 0 < length logs
 some_logs [] g rest e = absurd (let bad : [] ≡ g ∷ rest = e in cc)

@@ -1,4 +1,3 @@
-pub mod ActorLines
 pub mod Complete
 pub mod InputLaws
 pub mod KeptLines

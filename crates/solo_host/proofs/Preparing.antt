@@ -1,9 +1,8 @@
 -- What stands before an event: at a Sync a group for its log, at a reply its line, and else nothing.
-use Rattle.std.proofs.Common.{◌≡◌, ◌≢◌, ℕ, zero, suc, ◌<◌, Bool, true, false, if◌then◌else◌, inl, inr, Option, None, Some, List, [], ◌∷◌, length, map, drop, set, get_or, slice_get, refl, sym, ap, subst, ◌∙◌, arith, nat_lt, nat_eq}
+use Rattle.std.proofs.Common.{◌≡◌, ◌≢◌, ℕ, zero, suc, ◌<◌, Bool, true, false, if◌then◌else◌, inl, inr, Option, None, Some, List, [], ◌∷◌, length, map, drop, set, get_or, refl, sym, ap, subst, ◌∙◌, arith, nat_lt, nat_eq}
 use Rattle.std.specs.Io.KnownBytes.{Appends}
 use Rattle.std.proofs.KnownBytes.{Appends-nil}
 use Rattle.std.proofs.lemmas.Bool.{eq-eqb}
-use Rattle.std.proofs.lemmas.Option.{slice_get_within}
 use Rattle.std.proofs.lemmas.Bool.Decides.{eqb_tells}
 use Rattle.std.proofs.lemmas.List.{get_or-set_same, get_or-set_other}
 use Rattle.std.proofs.Math.ListN.{length-set}
@@ -28,6 +27,7 @@ use Rattle.run_effects.specs.Groups.{group_by, group_behind}
 use Rattle.run_effects.specs.Laws.{line_by}
 use Rattle.run_effects.specs.Lines.{line_in, verdict_line}
 use Rattle.snap_base.specs.declared.ids.TxNo.{TxNo}
+use Rattle.protocol_laws.proofs.machine.TracksKept.{in_range}
 use Rattle.snap_outside.specs.Causes.{Rose}
 use Rattle.core_events.specs.declared.events.Event as code
 use Rattle.core_events.specs.declared.events.Event.TheVariants as events
@@ -140,12 +140,9 @@ is_there : {X : Type 0} (test : X → Bool) (x : Option X) → holds test x ≡ 
 is_there test None is = cc
 is_there test (Some y) is = (y, refl)
 
-holds_within : {X : Type 0} (test : X → Bool) (xs : List X) (n : ℕ) → holds test (slice_get xs n) ≡ true → n < length xs
-holds_within test xs n is = let there = is_there test (slice_get xs n) is in slice_get_within xs n there.0 there.1
-
 pub log_exists : (w : Fixed Rest) (l : ℕ) (s : Machine Rest) → IsAllowed w (Sync l) s → l < length s.logs
 unfolding conditions
-log_exists w l s is = holds_within (λ (g : Log). nat_lt g.synced (length g.records)) s.logs l is.0
+log_exists w l s is = in_range (λ (g : Log). nat_lt g.synced (length g.records)) s.logs l is.0
 
 -- ---- a reply
 

@@ -1,12 +1,10 @@
 -- Lists by place: what is held, and the parts, after a value was put or an event happened.
 use Rattle.std.proofs.Common.{◌≡◌, ◌≢◌, ℕ, zero, suc, ◌<◌, List, [], ◌∷◌, set, length, Option, Some, None, IsSome, is_some, slice_get, ap, ap₂, sym, subst, refl, ◌∙◌, true≢false, length-set, arith}
 use Rattle.std.proofs.lemmas.Option.{slice_get_within}
+pub use Rattle.snap_base.proofs.Options.{none_is_some}
 use mathlib.Core.Logic.{dite}
 use native.Mathlib.Decide.{ℕ_discrete}
 use Rattle.turn_table.specs.Places.{at, put_at, one, Covers, before, values, replaced, held_after}
-
-pub none_is_some : {P : Type 0} (p : P) → None ≡ Some p → ⊥
-none_is_some p e = cc
 
 module _ {P : Type 0} where
   pub put_here : (hs : List (Option P)) (i : ℕ) (x : Option P) → at (put_at hs i x) i ≡ x

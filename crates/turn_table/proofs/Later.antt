@@ -6,15 +6,13 @@ use mathlib.Core.Option as maybe
 use mathlib.Core.Logic.{dite}
 use native.Mathlib.Decide.{ℕ_discrete, dec_le}
 use lib.ListN.{get_elem?}
+use Rattle.snap_base.proofs.Options.{same_some}
 use Rattle.atomic_table.specs.Table.{State}
 use Rattle.turn_table.specs.declared.views.View.{View}
 use Rattle.turn_table.specs.Places.{at, total, times, once_below, count_if, Stand}
 use Rattle.turn_table.specs.Runs.{AllLeave, AllLeaveFrom, GoesOnWithout, Leaves}
 use Rattle.turn_table.specs.Rule.{HoldsOn, IsEntry, IsLater, Kept}
 use Rattle.turn_table.proofs.ByPlace.{some_of}
-
-same_some : {X : Type 0} (x y : X) → Some x ≡ Some y → x ≡ y
-same_some x y e = cc e
 
 -- ---- entries
 

@@ -16,15 +16,15 @@ use Rattle.txn_records.specs.Texts.{RecordTexts}
 
 -- ---- lists of things that take so many bytes each
 
-field_size : (z : ℤ) → length (field_bytes z) ≡ 8
+pub field_size : (z : ℤ) → length (field_bytes z) ≡ 8
 unfolding field_bytes
 field_size z = refl
 
-fields_size : (zs : List ℤ) → length (flat_map field_bytes zs) ≡ 8 * length zs
+pub fields_size : (zs : List ℤ) → length (flat_map field_bytes zs) ≡ 8 * length zs
 fields_size [] = refl
 fields_size (z ∷ zs) = omega (arith, length-append (field_bytes z) (flat_map field_bytes zs), field_size z, fields_size zs)
 
-state_size : (s : State) → IsState s → length (state_bytes s) ≡ 128
+pub state_size : (s : State) → IsState s → length (state_bytes s) ≡ 128
 unfolding state_bytes
 state_size s is = fields_size s.0 ∙ ap (λ (n : ℕ). 8 * n) is.len
 
@@ -32,11 +32,11 @@ states_size : (ss : List State) → AllByRecursion IsState ss → length (states
 states_size [] are = refl
 states_size (s ∷ ss) are = omega (arith, length-append (state_bytes s) (states_bytes ss), state_size s are.0, states_size ss are.1)
 
-actors_size : (actors : List ActorId) → length (actors_bytes actors) ≡ 2 * length actors
+pub actors_size : (actors : List ActorId) → length (actors_bytes actors) ≡ 2 * length actors
 actors_size [] = refl
 actors_size (a ∷ actors) = omega (arith, actors_size actors)
 
-tids_size : (ts : List Tid) → length (tids_bytes ts) ≡ 8 * length ts
+pub tids_size : (ts : List Tid) → length (tids_bytes ts) ≡ 8 * length ts
 tids_size [] = refl
 tids_size (t ∷ ts) = omega (arith, tids_size ts)
 

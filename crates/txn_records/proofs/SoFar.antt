@@ -2,18 +2,15 @@
 use Rattle.std.proofs.Common.{◌≡◌, ℕ, ◌+◌, ◌-◌, ◌<◌, ◌≤◌, List, [], ◌∷◌, ◌++◌, length, get_or, take, map, refl, sym, ap, subst, ◌∙◌, append_assoc, arith}
 use Rattle.std.specs.List.{AllByRecursion, flat_map}
 use Rattle.std.proofs.lemmas.List.{append-nil, length-append, flat_map_more, take_all, take_more}
+use Rattle.snap_base.proofs.Lists.{all_push}
 use Rattle.txn_records.specs.declared.numbers.Stop.{Stop}
 use Rattle.txn_records.specs.Records.{Ascend}
 use Rattle.txn_records.specs.Stops.{Stops, Fails, Any, Seq}
 use Rattle.txn_records.proofs.OneRecord.{SpelledApart}
 use Rattle.txn_records.proofs.Lists.{Lists, lists_behind, lists_stop, Roomy, Risings, risings_behind, risings_stop}
 
-AllByRecursion-push : {A : Type 0} (P : A → Type 0) (xs : List A) (x : A) → AllByRecursion P xs → P x → AllByRecursion P (xs ++ x ∷ [])
-AllByRecursion-push P [] x p q = (q, tt)
-AllByRecursion-push P (y ∷ ys) x p q = (p.0, AllByRecursion-push P ys x p.1 q)
-
 pub each_more : {A : Type 0} (P : A → Type 0) (xs : List A) (i : ℕ) (d : A) → i < length xs → AllByRecursion P (take i xs) → P (get_or xs i d) → AllByRecursion P (take (i + 1) xs)
-each_more P xs i d lt h p = subst (AllByRecursion P) (sym (take_more xs i d lt)) (AllByRecursion-push P (take i xs) (get_or xs i d) h p)
+each_more P xs i d lt h p = subst (AllByRecursion P) (sym (take_more xs i d lt)) (all_push P (take i xs) (get_or xs i d) h p)
 
 pub each_there : {A : Type 0} (P : A → Type 0) (xs : List A) (n : ℕ) → length xs ≤ n → AllByRecursion P (take n xs) → AllByRecursion P xs
 each_there P xs n all h = subst (AllByRecursion P) (take_all n xs all) h
@@ -44,7 +41,7 @@ pub list_more : {X : Type 0} (Is : X → Type 0) (spell : X → List ℕ) → Sp
 list_more {X} Is spell each F bytes rest after xs ys x i count lt p e h s =
     let r : ListSoFar Is spell F bytes after (xs ++ x ∷ []) (i + 1) (count - (i + 1)) = record {
       len = omega (arith, length-append xs (x ∷ []), s.len);
-      each = AllByRecursion-push Is xs x s.each p;
+      each = all_push Is xs x s.each p;
       spelled = spelled_more spell bytes rest after xs x s.spelled e;
       behind = lists_behind Is spell each F bytes rest after (count - i) (count - (i + 1)) x (omega arith) p e s.behind;
     } in

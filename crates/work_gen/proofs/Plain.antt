@@ -1,16 +1,18 @@
 -- Lines of plain bytes: a text's lines, a line's words.
-use Rattle.std.proofs.Common.{◌≡◌, ℕ, zero, suc, ◌+◌, ◌*◌, ◌<◌, ◌≤◌, ◌^◌, Bool, true, false, not, List, [], ◌∷◌, ◌++◌, length, map, refl, arith, ap, ◌∙◌, eqb, if◌then◌else◌, append_assoc, length-append}
+use Rattle.std.proofs.Common.{◌≡◌, ℕ, zero, suc, ◌+◌, ◌*◌, ◌<◌, ◌≤◌, ◌^◌, Bool, true, false, not, List, [], ◌∷◌, ◌++◌, length, map, refl, arith, ap, ◌∙◌, eqb, append_assoc, length-append}
 use Rattle.std.specs.Prelude.{◌==◌, ◌&&◌, nat_lt, slice_index}
 use Rattle.std.specs.List.{AllByRecursion, list_all, onto_first}
 use Rattle.std.specs.Fmt.{decimal}
 use Rattle.std.specs.Str.{IsUtf8}
-use Rattle.std.proofs.lemmas.Bool.{ne_eqb, lt-ltb, ltb-true}
+use Rattle.std.proofs.lemmas.Bool.{ne_eqb, lt-ltb, ltb-true, and_from}
 use Rattle.std.proofs.lemmas.Fmt.{decimal-digits_of, decimal_digit}
 use Rattle.std.proofs.lemmas.Int.Digits.{all_below_base_digits_of}
 use Rattle.std.proofs.lemmas.List.Folds.{list_all-append}
 use Rattle.std.proofs.lemmas.List.Splits.{slice_split-cons_no}
 use Rattle.std.proofs.lemmas.Str.{IsUtf8-append, IsUtf8-from_ascii, IsUtf8-nil}
+use Rattle.snap_base.proofs.Booleans.{first_true, second_true, not_false}
 use Rattle.work_text.specs.Lines.{lines, onto_line, text_of, words, says}
+use Rattle.work_text.proofs.TextLines.{lines_step}
 
 -- ASCII, and no line feed
 abbrev pub line_byte : ℕ → Bool
@@ -28,37 +30,22 @@ IsPlain word = list_all word_byte word ≡ true
 
 -- ---- bytes
 
-left : (a b : Bool) → (a && b) ≡ true → a ≡ true
-left true b e = refl
-left false b e = e
-
-pub right : (a b : Bool) → (a && b) ≡ true → b ≡ true
-right true b e = e
-right false b e = absurd (cc e)
-
-off : (t : Bool) → not t ≡ true → t ≡ false
-off true e = absurd (cc e)
-off false e = refl
-
 no_feed : (b : ℕ) → line_byte b ≡ true → eqb b 10 ≡ false
-no_feed b e = off (eqb b 10) (right (nat_lt b 128) (not (eqb b 10)) e)
+no_feed b e = not_false (eqb b 10) (second_true (nat_lt b 128) (not (eqb b 10)) e)
 
 no_blank : (b : ℕ) → word_byte b ≡ true → eqb b 32 ≡ false
-no_blank b e = off (eqb b 32) (right (line_byte b) (not (eqb b 32)) e)
-
-both : (a b : Bool) → a ≡ true → b ≡ true → (a && b) ≡ true
-both a b e f = rw (e, f) refl
+no_blank b e = not_false (eqb b 32) (second_true (line_byte b) (not (eqb b 32)) e)
 
 pub line_word : (word : List ℕ) → IsPlain word → IsLine word
 line_word [] e = refl
 line_word (b ∷ bs) e =
-    both (line_byte b) (list_all line_byte bs) (left (line_byte b) (not (eqb b 32)) (left (word_byte b) (list_all word_byte bs) e)) (line_word bs (right (word_byte b) (list_all word_byte bs) e))
+    and_from (line_byte b) (list_all line_byte bs) (first_true (line_byte b) (not (eqb b 32)) (first_true (word_byte b) (list_all word_byte bs) e)) (line_word bs (second_true (word_byte b) (list_all word_byte bs) e))
 
 pub line_append : (xs ys : List ℕ) → IsLine xs → IsLine ys → IsLine (xs ++ ys)
-line_append xs ys e f = list_all-append line_byte xs ys ∙ both (list_all line_byte xs) (list_all line_byte ys) e f
+line_append xs ys e f = list_all-append line_byte xs ys ∙ and_from (list_all line_byte xs) (list_all line_byte ys) e f
 
 pub word_append : (xs ys : List ℕ) → IsPlain xs → IsPlain ys → IsPlain (xs ++ ys)
-word_append xs ys e f = list_all-append word_byte xs ys ∙ both (list_all word_byte xs) (list_all word_byte ys) e f
+word_append xs ys e f = list_all-append word_byte xs ys ∙ and_from (list_all word_byte xs) (list_all word_byte ys) e f
 
 -- ---- numbers
 
@@ -71,7 +58,7 @@ digit d lt =
 
 digits : (ds : List ℕ) → AllByRecursion (λ d. d < 10) ds → IsPlain (map (λ d. 48 + d) ds)
 digits [] all = refl
-digits (d ∷ ds) all = both (word_byte (48 + d)) (list_all word_byte (map (λ d. 48 + d) ds)) (digit d all.0) (digits ds all.1)
+digits (d ∷ ds) all = and_from (word_byte (48 + d)) (list_all word_byte (map (λ d. 48 + d) ds)) (digit d all.0) (digits ds all.1)
 
 pub plain_number : (n : ℕ) → n < 2 ^ 64 → IsPlain (decimal n)
 plain_number zero fits = rw (decimal_digit zero (omega arith)) refl
@@ -82,13 +69,13 @@ plain_number (suc n) fits = rw (decimal-digits_of (suc n) (omega arith) fits) (d
 pub words_front : (word rest : List ℕ) → IsPlain word → words (word ++ 32 ∷ rest) ≡ word ∷ words rest
 words_front [] rest e = refl
 words_front (b ∷ bs) rest e =
-    slice_split-cons_no (λ b. b == 32) b (bs ++ 32 ∷ rest) (no_blank b (left (word_byte b) (list_all word_byte bs) e))
-    ∙ ap (onto_first b) (words_front bs rest (right (word_byte b) (list_all word_byte bs) e))
+    slice_split-cons_no (λ b. b == 32) b (bs ++ 32 ∷ rest) (no_blank b (first_true (word_byte b) (list_all word_byte bs) e))
+    ∙ ap (onto_first b) (words_front bs rest (second_true (word_byte b) (list_all word_byte bs) e))
 
 pub words_last : (word : List ℕ) → IsPlain word → words word ≡ word ∷ []
 words_last [] e = refl
 words_last (b ∷ bs) e =
-    slice_split-cons_no (λ b. b == 32) b bs (no_blank b (left (word_byte b) (list_all word_byte bs) e)) ∙ ap (onto_first b) (words_last bs (right (word_byte b) (list_all word_byte bs) e))
+    slice_split-cons_no (λ b. b == 32) b bs (no_blank b (first_true (word_byte b) (list_all word_byte bs) e)) ∙ ap (onto_first b) (words_last bs (second_true (word_byte b) (list_all word_byte bs) e))
 
 -- ---- texts
 
@@ -98,13 +85,10 @@ pub record IsKept (line : List ℕ) : Type 0 where
   pub short : length line ≤ 100
   pub said : says line ≡ true
 
-lines_step : (t : Bool) (b : ℕ) (bs : List ℕ) → eqb b 10 ≡ t → lines (b ∷ bs) ≡ (if t then [] ∷ lines bs else onto_line b (lines bs))
-lines_step t b bs e = ap (λ (t : Bool). if t then [] ∷ lines bs else onto_line b (lines bs)) e
-
 lines_front : (front rest : List ℕ) → IsLine front → lines (front ++ 10 ∷ rest) ≡ front ∷ lines rest
 lines_front [] rest e = refl
 lines_front (b ∷ bs) rest e =
-    lines_step false b (bs ++ 10 ∷ rest) (no_feed b (left (line_byte b) (list_all line_byte bs) e)) ∙ ap (onto_line b) (lines_front bs rest (right (line_byte b) (list_all line_byte bs) e))
+    lines_step false b (bs ++ 10 ∷ rest) (no_feed b (first_true (line_byte b) (list_all line_byte bs) e)) ∙ ap (onto_line b) (lines_front bs rest (second_true (line_byte b) (list_all line_byte bs) e))
 
 pub lines_of : (ls : List (List ℕ)) → AllByRecursion IsKept ls → lines (text_of ls) ≡ ls
 lines_of [] all = refl
@@ -113,8 +97,8 @@ lines_of (l ∷ ls) all =
 
 ascii_line : (line : List ℕ) → IsLine line → (i : ℕ) → slice_index line i < 128
 ascii_line [] e i = omega arith
-ascii_line (b ∷ bs) e zero = let h = left (nat_lt b 128) (not (eqb b 10)) (left (line_byte b) (list_all line_byte bs) e) in ltb-true b 128 h
-ascii_line (b ∷ bs) e (suc i) = ascii_line bs (right (line_byte b) (list_all line_byte bs) e) i
+ascii_line (b ∷ bs) e zero = let h = first_true (nat_lt b 128) (not (eqb b 10)) (first_true (line_byte b) (list_all line_byte bs) e) in ltb-true b 128 h
+ascii_line (b ∷ bs) e (suc i) = ascii_line bs (second_true (line_byte b) (list_all line_byte bs) e) i
 
 feed : (i : ℕ) → slice_index (10 ∷ []) i < 128
 feed zero = omega arith

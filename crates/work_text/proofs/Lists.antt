@@ -56,10 +56,6 @@ spelled_more f words xs i d x lt e so_far =
     ap (λ ys. map (λ (y : Bor (List ℕ)). y.now) ys) (take_more words i d lt) ∙ map-append (λ (y : Bor (List ℕ)). y.now) (take i words) (get_or words i d ∷ [])
     ∙ ap (λ ys. ys ++ (get_or words i d).now ∷ []) so_far ∙ ap (λ y. map f xs ++ y ∷ []) e ∙ sym (map-append f xs (x ∷ []))
 
-pub all_more : {X : Type 0} (P : X → Type 0) (xs : List X) (x : X) → AllByRecursion P xs → P x → AllByRecursion P (xs ++ x ∷ [])
-all_more P [] x all h = (h, tt)
-all_more P (y ∷ xs) x all h = (all.0, all_more P xs x all.1 h)
-
 -- what stands before an end
 pub front_before : (xs front end : List ℕ) → xs ≡ front ++ end → take (length xs - length end) xs ≡ front
 front_before xs front end e = ap (λ k. take k xs) (omega (arith, ap length e, length-append front end)) ∙ ap (take (length front)) e ∙ take-append_seam front end

@@ -4,6 +4,7 @@ use Rattle.std.specs.Prelude.{IfSome}
 use Rattle.std.specs.List.{AllByRecursion}
 use Rattle.std.proofs.lemmas.Bool.{ne_eqb, eq-eqb, eqb-true}
 use Rattle.snap_base.specs.declared.transactions.State.{State}
+use Rattle.snap_base.proofs.Lists.{all_push}
 use Rattle.snap_work.specs.declared.faults.WorkFault.{WorkFault}
 use Rattle.snap_work.specs.declared.faults.WorkNo.{WorkNo}
 use Rattle.snap_work.specs.declared.faults.WorkNo.TheVariants as no
@@ -12,7 +13,6 @@ use Rattle.work_text.specs.Readings.{IsNo}
 use Rattle.work_text.specs.Actors.{Named, actor, state_with, state_in, states_in}
 use Rattle.work_text.specs.Reads.{first_is_actor}
 use Rattle.work_text.specs.Endings.{named_lines, states}
-use Rattle.work_text.proofs.Lists.{all_more}
 
 -- ---- one more state
 
@@ -113,7 +113,7 @@ one_given count start last here given l behind n next s e is h put =
     record {
       named = s.named ++ n ∷ [];
       same = put ∙ ap (λ ss. set ss n.actor (state_with n.values)) s.same ∙ sym (states_more s.named n 0 count n.actor low (omega arith) h.0.known);
-      upto = all_more (λ (m : Named). m.actor ≤ n.actor) s.named n (all_upto n.actor s.named low) (omega arith);
+      upto = all_push (λ (m : Named). m.actor ≤ n.actor) s.named n (all_upto n.actor s.named low) (omega arith);
       goes = λ x g. subst (named_lines count None start) (onto_one s.named n x) (s.goes (onto_named (n ∷ []) x) (rw e (goes_on count last l behind n is h x g)));
     }
 

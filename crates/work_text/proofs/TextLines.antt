@@ -3,13 +3,13 @@ use Rattle.std.proofs.Common.{◌≡◌, ◌≢◌, ℕ, ◌+◌, ◌<◌, Bool,
 use Rattle.std.proofs.lemmas.List.{take-append-drop, drop_more, drop_all, take_more}
 use Rattle.std.proofs.Math.Seq.{take-length}
 use Rattle.std.specs.List.{AllByRecursion}
+use Rattle.snap_base.proofs.Lists.{all_push}
 use Rattle.work_text.specs.Lines.{lines, onto_line}
-use Rattle.work_text.proofs.Lists.{all_more}
 
 abbrev pub IsFree : List ℕ → Type 0
 IsFree line = AllByRecursion (λ b. eqb b 10 ≡ false) line
 
-lines_step : (t : Bool) (b : ℕ) (bs : List ℕ) → eqb b 10 ≡ t → lines (b ∷ bs) ≡ (if t then [] ∷ lines bs else onto_line b (lines bs))
+pub lines_step : (t : Bool) (b : ℕ) (bs : List ℕ) → eqb b 10 ≡ t → lines (b ∷ bs) ≡ (if t then [] ∷ lines bs else onto_line b (lines bs))
 lines_step t b bs e = ap (λ (t : Bool). if t then [] ∷ lines bs else onto_line b (lines bs)) e
 
 lines_front : (front rest : List ℕ) → IsFree front → lines (front ++ 10 ∷ rest) ≡ front ∷ lines rest
@@ -36,7 +36,7 @@ cut_at_end rest at e free some =
     rw none (rw whole (lines_whole rest (rw whole at free) some))
 
 pub free_more : (rest : List ℕ) (at d : ℕ) → at < length rest → IsFree (take at rest) → eqb (get_or rest at d) 10 ≡ false → IsFree (take (at + 1) rest)
-free_more rest at d lt free other = rw (take_more rest at d lt) (all_more (λ b. eqb b 10 ≡ false) (take at rest) (get_or rest at d) free other)
+free_more rest at d lt free other = rw (take_more rest at d lt) (all_push (λ b. eqb b 10 ≡ false) (take at rest) (get_or rest at d) free other)
 
 pub feed_at : (rest : List ℕ) (at d : ℕ) → at < length rest → get_or rest at d ≡ 10 → rest ≡ take at rest ++ 10 ∷ drop (at + 1) rest
 feed_at rest at d lt is = sym (take-append-drop at rest) ∙ ap (λ ys. take at rest ++ ys) (drop_more rest at d lt ∙ ap (λ y. y ∷ drop (at + 1) rest) is)

@@ -19,6 +19,7 @@ use Rattle.protocol_laws.proofs.first.Leaves.{has_logs}
 use Rattle.protocol_laws.proofs.first.Ranges.{numbers_in_range}
 use Rattle.protocol_laws.proofs.first.Times
 use Rattle.protocol_laws.proofs.first.Lists.{all_found}
+use Rattle.protocol_laws.proofs.machine.TracksKept.{in_range}
 
 -- ---- what lists contain
 
@@ -36,7 +37,7 @@ flat_mapped f (z ∷ xs) x y (suc i) l e h = Contains-append_right (f z) (flat_m
 of_two : (kind : ℕ → ℕ → Event) (xs ys : List ℕ) (x y : ℕ) → Contains xs x → Contains ys y → Contains (each_two kind xs ys) (kind x y)
 of_two kind xs ys x y h g = flat_mapped (λ x. map (kind x) ys) xs x (kind x y) h.0 h.1 h.2 (mapped (kind x) ys y g)
 
-in_below : (i n : ℕ) → i < n → Contains (below n) i
+pub in_below : (i n : ℕ) → i < n → Contains (below n) i
 in_below i zero h = absurd (omega (arith, h))
 in_below i (suc n) h = elim (cases_lt i n) [
   | inl a ↦ Contains-append_left (below n) (n ∷ []) i (in_below i n a)
@@ -71,11 +72,6 @@ held p (Some x) h = record { it = x; is = refl; does = h }
 some : {X : Type 0} (o : Option X) → is_some o ≡ true → Held (λ x. true) o
 some None h = absurd (true≢false (sym h))
 some (Some x) h = record { it = x; is = refl; does = refl }
-
-exists : {X : Type 0} (p : X → Bool) (xs : List X) (a : ℕ) → holds p (slice_get xs a) ≡ true → a < length xs
-exists p [] a h = absurd (true≢false (sym h))
-exists p (x ∷ xs) zero h = omega arith
-exists p (x ∷ xs) (suc a) h = omega (arith, exists p xs a h)
 
 cell_in : {X : Type 0} (P : X → Type 0) (p : X → Bool) (xs : List X) (a : ℕ) → AllByRecursion P xs → holds p (slice_get xs a) ≡ true → (x : X) × P x × (p x ≡ true)
 cell_in P p [] a g h = absurd (true≢false (sym h))
@@ -135,7 +131,7 @@ goes_in w s t a p h q =
     keyed (λ x. x.tid) _ (IsWithin w.text.opening.next_tid s.ring.next_tid) c.0.outbox t x.it (λ x g. g) x.is c.1.outbox
 
 -- a batch that has an entry is on the schedule
-on_schedule : (Q : ℕ → Type 0) (k : ℕ) (es : List Entry) (e : Entry) → find (is_batch_entry k) es ≡ Some e → AllByRecursion Q (batches_on es) → Q k
+pub on_schedule : (Q : ℕ → Type 0) (k : ℕ) (es : List Entry) (e : Entry) → find (is_batch_entry k) es ≡ Some e → AllByRecursion Q (batches_on es) → Q k
 on_schedule Q k [] e q h = absurd (cc q)
 on_schedule Q k (BatchEntry b ∷ es) e q h = by (b.bid == k) refl q (on_schedule Q k es e)
   where
@@ -188,19 +184,19 @@ contained w (Pass c) s text logs h ok =
 contained w (Form k) s text logs h ok = offered (groups w s) 2 _ _ refl (subst (λ m. Contains (Form s.ring.next_bid ∷ []) (Form m)) (sym (eqb-true k s.ring.next_bid ok.0)) (here _ []))
 contained w (Admit t) s text logs h ok = offered (groups w s) 3 _ _ refl (subst (λ m. Contains (Admit s.ring.next_tid ∷ []) (Admit m)) (sym (eqb-true t s.ring.next_tid ok.0)) (here _ []))
 contained w (Arrive k a) s text logs h ok = let x = sub_in w s k a h.subs ok.0 in offered (groups w s) 4 _ _ refl (of_two Arrive _ _ k a (is_bid w s k x.0) (is_cell w s a h x.1))
-contained w (Ask t a) s text logs h ok = offered (groups w s) 5 _ _ refl (of_two Ask _ _ t a (is_tid w s t (control_in w s t _ h ok.0)) (in_below a _ (exists _ s.cells a ok.1.1.0)))
-contained w (Take t a) s text logs h ok = offered (groups w s) 6 _ _ refl (of_two Take _ _ t a (is_tid w s t (control_in w s t _ h ok.0)) (in_below a _ (exists _ s.cells a ok.1.0)))
-contained w (Run t a) s text logs h ok = offered (groups w s) 7 _ _ refl (of_two Run _ _ t a (is_tid w s t (waits_in w s t a h ok.0)) (in_below a _ (exists _ s.cells a ok.0)))
-contained w (Send t a) s text logs h ok = offered (groups w s) 8 _ _ refl (of_two Send _ _ t a (is_tid w s t (goes_in w s t a _ h ok.0)) (in_below a _ (exists _ s.cells a ok.0)))
-contained w (End t a) s text logs h ok = offered (groups w s) 9 _ _ refl (of_two End _ _ t a (is_tid w s t (goes_in w s t a _ h ok.0)) (in_below a _ (exists _ s.cells a ok.0)))
-contained w (Close t a) s text logs h ok = offered (groups w s) 10 _ _ refl (of_two Close _ _ t a (is_tid w s t (result_in w s t s.desk.batches h.batches ok.0)) (in_below a _ (exists _ s.cells a ok.1.0)))
-contained w (Complete k a) s text logs h ok = offered (groups w s) 11 _ _ refl (of_two Complete _ _ k a (is_bid w s k (stands_in w s k a _ h ok.0)) (in_below a _ (exists _ s.cells a ok.0)))
-contained w (Sync l) s text logs h ok = offered (groups w s) 12 _ _ refl (mapped Sync (below w.text.logs) l (in_below l w.text.logs (omega (arith, logs, exists _ s.logs l ok.0))))
+contained w (Ask t a) s text logs h ok = offered (groups w s) 5 _ _ refl (of_two Ask _ _ t a (is_tid w s t (control_in w s t _ h ok.0)) (in_below a _ (in_range _ s.cells a ok.1.1.0)))
+contained w (Take t a) s text logs h ok = offered (groups w s) 6 _ _ refl (of_two Take _ _ t a (is_tid w s t (control_in w s t _ h ok.0)) (in_below a _ (in_range _ s.cells a ok.1.0)))
+contained w (Run t a) s text logs h ok = offered (groups w s) 7 _ _ refl (of_two Run _ _ t a (is_tid w s t (waits_in w s t a h ok.0)) (in_below a _ (in_range _ s.cells a ok.0)))
+contained w (Send t a) s text logs h ok = offered (groups w s) 8 _ _ refl (of_two Send _ _ t a (is_tid w s t (goes_in w s t a _ h ok.0)) (in_below a _ (in_range _ s.cells a ok.0)))
+contained w (End t a) s text logs h ok = offered (groups w s) 9 _ _ refl (of_two End _ _ t a (is_tid w s t (goes_in w s t a _ h ok.0)) (in_below a _ (in_range _ s.cells a ok.0)))
+contained w (Close t a) s text logs h ok = offered (groups w s) 10 _ _ refl (of_two Close _ _ t a (is_tid w s t (result_in w s t s.desk.batches h.batches ok.0)) (in_below a _ (in_range _ s.cells a ok.1.0)))
+contained w (Complete k a) s text logs h ok = offered (groups w s) 11 _ _ refl (of_two Complete _ _ k a (is_bid w s k (stands_in w s k a _ h ok.0)) (in_below a _ (in_range _ s.cells a ok.0)))
+contained w (Sync l) s text logs h ok = offered (groups w s) 12 _ _ refl (mapped Sync (below w.text.logs) l (in_below l w.text.logs (omega (arith, logs, in_range _ s.logs l ok.0))))
 contained w (Note k a) s text logs h ok = offered (groups w s) 13 _ _ refl (of_two Note _ _ k a (is_bid w s k (batch_in w s k _ h ok.0)) (is_cell w s a h (declared_in w s k a _ (λ p. not p.noted) h ok.0 (λ b c. (and_parts (is_open b) _ c).1))))
 contained w (Commit k) s text logs h ok = offered (groups w s) 14 _ _ refl (mapped Commit _ k (is_bid w s k (batch_in w s k _ h ok.0)))
 contained w (Settle k) s text logs h ok = offered (groups w s) 15 _ _ refl (mapped Settle _ k (is_bid w s k (batch_in w s k _ h ok.0)))
 contained w (Abort k) s text logs h ok = offered (groups w s) 16 _ _ refl (mapped Abort _ k (is_bid w s k (batch_in w s k _ h ok.0)))
-contained w (Rollback a) s text logs h ok = offered (groups w s) 17 _ _ refl (mapped Rollback _ a (in_below a _ (exists _ s.cells a ok.0)))
+contained w (Rollback a) s text logs h ok = offered (groups w s) 17 _ _ refl (mapped Rollback _ a (in_below a _ (in_range _ s.cells a ok.0)))
 contained w (DropSub k a) s text logs h ok = let x = sub_in w s k a h.subs ok.0 in offered (groups w s) 18 _ _ refl (of_two DropSub _ _ k a (is_bid w s k x.0) (is_cell w s a h x.1))
 contained w (DropControl t) s text logs h ok = offered (groups w s) 19 _ _ refl (mapped DropControl _ t (is_tid w s t (control_in w s t _ h ok.1.0)))
 contained w (Prepare t a) s text logs h ok = offered (groups w s) 20 _ _ refl (of_two Prepare _ _ t a (is_tid w s t (act_in w s t _ h ok.0)) (is_cell w s a h (place_in w s t a _ (λ p. not p.prepared) h ok.1.0 (λ x c. c))))
@@ -208,7 +204,7 @@ contained w (Vouch t a) s text logs h ok = offered (groups w s) 21 _ _ refl (of_
 contained w (Decide t) s text logs h ok = offered (groups w s) 22 _ _ refl (mapped Decide _ t (is_tid w s t (act_in w s t _ h ok.0)))
 contained w (Seal t) s text logs h ok = offered (groups w s) 23 _ _ refl (mapped Seal _ t (is_tid w s t (act_in w s t _ h ok.0)))
 contained w (Finish t a) s text logs h ok = offered (groups w s) 24 _ _ refl (of_two Finish _ _ t a (is_tid w s t (act_in w s t _ h ok.0)) (is_cell w s a h (place_in w s t a _ (λ p. not p.finished) h ok.1.0 (λ x c. c))))
-contained w (Reply n) s text logs h ok = offered (groups w s) 25 _ _ refl (mapped Reply (below (length w.text.txs)) n (in_below n (length w.text.txs) (omega (arith, h.replied, exists not s.desk.replied n ok.0))))
+contained w (Reply n) s text logs h ok = offered (groups w s) 25 _ _ refl (mapped Reply (below (length w.text.txs)) n (in_below n (length w.text.txs) (omega (arith, h.replied, in_range not s.desk.replied n ok.0))))
 contained w (Trim k a) s text logs h ok = offered (groups w s) 26 _ _ refl (of_two Trim _ _ k a (is_bid w s k (batch_in w s k _ h ok.0)) (is_cell w s a h (declared_in w s k a _ (λ p. not p.trimmed) h ok.0 (λ b c. (and_parts (not b.aborted) _ (and_parts (is_settled b.stage) _ c).1).1))))
 
 pub allowed_is_candidate : {C : Type 0} (w : Fixed C) (es : List Event) (e : Event) → IsText w.text → IsRun w es → IsAllowed w e (reached w es) → Contains (candidates w (reached w es)) e

@@ -47,7 +47,7 @@ FitsIn cs next c = CellFits cs next c.epoch (batches_on c.entries)
 
 -- ---- what an event does to the batches of a schedule
 
-on_append : (xs ys : List Entry) → batches_on (xs ++ ys) ≡ batches_on xs ++ batches_on ys
+pub on_append : (xs ys : List Entry) → batches_on (xs ++ ys) ≡ batches_on xs ++ batches_on ys
 on_append [] ys = refl
 on_append (BatchEntry b ∷ xs) ys = rw (on_append xs ys) refl
 on_append (ActEntry x ∷ xs) ys = on_append xs ys

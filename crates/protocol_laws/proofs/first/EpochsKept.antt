@@ -188,7 +188,7 @@ new_counts : (k e a : ℕ) (cs : List Cascade) (ds : List ℕ) → epoch_of k cs
 unfolding of_epoch
 new_counts k e a cs ds h = rw (lt-ltb k (k + 1) (omega arith), eq-eqb (epoch_of k cs) e h) refl
 
-actors_of_new : (ds : List ℕ) → map (λ p. p.actor) (map new_declared ds) ≡ ds
+pub actors_of_new : (ds : List ℕ) → map (λ p. p.actor) (map new_declared ds) ≡ ds
 actors_of_new [] = refl
 actors_of_new (d ∷ ds) = rw (actors_of_new ds) refl
 

@@ -1,21 +1,11 @@
 -- Lists: what holds of each, and of one.
-use Rattle.std.specs.Prelude.{Bool, List, None, Option, Some, [], drop, false, filter, find, if◌then◌else◌, is_some, length, map, refl, slice_index_or, slice_set, suc, take, true, zero, ℕ, ◌++◌, ◌||◌, ◌∷◌, ◌≡◌, ◌≤◌, ◌⊎◌}
+use Rattle.std.specs.Prelude.{Bool, List, None, Option, Some, [], false, filter, if◌then◌else◌, is_some, map, refl, slice_index_or, slice_set, suc, take, true, zero, ℕ, ◌++◌, ◌∷◌, ◌≡◌, ◌⊎◌}
 use Rattle.std.specs.List.{AllByRecursion, list_all, list_any}
-use Rattle.std.proofs.Common.{ap, arith, inl, inr, subst, sym}
+use Rattle.std.proofs.Common.{ap, inl, inr, subst, sym}
 use Rattle.std.proofs.lemmas.Bool.{and_parts, or_cases, or_left, or_right, true≢false}
+pub use Rattle.snap_base.proofs.Lists.{all_join, all_filter, weaker, both_all, all_found, all_get, all_set, all_back, all_front, all_mid, all_take, all_drop, all_of}
+pub use Rattle.snap_base.proofs.Booleans.{or_true}
 use Rattle.protocol.specs.Words.{holds}
-
-pub all_join : {X : Type 0} (P : X → Type 0) (xs ys : List X) → AllByRecursion P xs → AllByRecursion P ys → AllByRecursion P (xs ++ ys)
-all_join P [] ys h k = k
-all_join P (x ∷ xs) ys h k = (h.0, all_join P xs ys h.1 k)
-
-pub all_filter : {X : Type 0} (P : X → Type 0) (p : X → Bool) (xs : List X) → AllByRecursion P xs → AllByRecursion P (filter p xs)
-all_filter P p [] h = tt
-all_filter P p (x ∷ xs) h = by (p x) (all_filter P p xs h.1)
-  where
-    by : (b : Bool) → AllByRecursion P (filter p xs) → AllByRecursion P (if b then x ∷ filter p xs else filter p xs)
-    by true k = (h.0, k)
-    by false k = k
 
 pub all_map : {X Y : Type 0} (P : X → Type 0) (Q : Y → Type 0) (f : X → Y) (xs : List X) → ((x : X) → P x → Q (f x)) → AllByRecursion P xs → AllByRecursion Q (map f xs)
 all_map P Q f [] k h = tt
@@ -24,23 +14,6 @@ all_map P Q f (x ∷ xs) k h = (k x h.0, all_map P Q f xs k h.1)
 pub all_unmapped : {X Y : Type 0} (P : X → Type 0) (Q : Y → Type 0) (f : X → Y) (xs : List X) → ((x : X) → Q (f x) → P x) → AllByRecursion Q (map f xs) → AllByRecursion P xs
 all_unmapped P Q f [] k h = tt
 all_unmapped P Q f (x ∷ xs) k h = (k x h.0, all_unmapped P Q f xs k h.1)
-
-pub weaker : {X : Type 0} (P Q : X → Type 0) (xs : List X) → ((x : X) → P x → Q x) → AllByRecursion P xs → AllByRecursion Q xs
-weaker P Q [] k h = tt
-weaker P Q (x ∷ xs) k h = (k x h.0, weaker P Q xs k h.1)
-
-pub both_all : {X : Type 0} (P Q R : X → Type 0) (xs : List X) → ((x : X) → P x → Q x → R x) → AllByRecursion P xs → AllByRecursion Q xs → AllByRecursion R xs
-both_all P Q R [] k h g = tt
-both_all P Q R (x ∷ xs) k h g = (k x h.0 g.0, both_all P Q R xs k h.1 g.1)
-
--- one that is found
-pub all_found : {X : Type 0} (P : X → Type 0) (p : X → Bool) (xs : List X) (x : X) → AllByRecursion P xs → find p xs ≡ Some x → P x × (p x ≡ true)
-all_found P p [] x h e = absurd (cc e)
-all_found P p (y ∷ ys) x h e = by (p y) refl e (all_found P p ys x h.1)
-  where
-    by : (b : Bool) → p y ≡ b → (if b then Some y else find p ys) ≡ Some x → (find p ys ≡ Some x → P x × (p x ≡ true)) → P x × (p x ≡ true)
-    by true q e k = let i : y ≡ x = cc e in subst (λ z. P z × (p z ≡ true)) i (h.0, q)
-    by false q e k = k e
 
 -- what holds of each at its place holds after one is set, where it holds of that one
 pub set_each : {X : Type 0} (Q : ℕ → X → Type 0) (xs : List X) (a : ℕ) (c d : X) → Q a c → ((i : ℕ) → Q i (slice_index_or xs i d)) → (i : ℕ) → Q i (slice_index_or (slice_set xs a c) i d)
@@ -80,24 +53,6 @@ filter_join p (x ∷ xs) ys = by (p x) (filter_join p xs ys)
     by true h = ap (λ l. x ∷ l) h
     by false h = h
 
-pub all_get : {X : Type 0} (P : X → Type 0) (xs : List X) (i : ℕ) (d : X) → P d → AllByRecursion P xs → P (slice_index_or xs i d)
-all_get P [] i d p h = p
-all_get P (x ∷ xs) zero d p h = h.0
-all_get P (x ∷ xs) (suc i) d p h = all_get P xs i d p h.1
-
-pub all_set : {X : Type 0} (P : X → Type 0) (xs : List X) (i : ℕ) (y : X) → P y → AllByRecursion P xs → AllByRecursion P (slice_set xs i y)
-all_set P [] i y p h = tt
-all_set P (x ∷ xs) zero y p h = (p, h.1)
-all_set P (x ∷ xs) (suc i) y p h = (h.0, all_set P xs i y p h.1)
-
-pub all_back : {X : Type 0} (P : X → Type 0) (xs ys : List X) → AllByRecursion P (xs ++ ys) → AllByRecursion P ys
-all_back P [] ys h = h
-all_back P (x ∷ xs) ys h = all_back P xs ys h.1
-
-pub all_front : {X : Type 0} (P : X → Type 0) (xs ys : List X) → AllByRecursion P (xs ++ ys) → AllByRecursion P xs
-all_front P [] ys h = tt
-all_front P (x ∷ xs) ys h = (h.0, all_front P xs ys h.1)
-
 pub any_join : {X : Type 0} (p : X → Bool) (xs ys : List X) → list_any p (xs ++ ys) ≡ true → (list_any p xs ≡ true) ⊎ (list_any p ys ≡ true)
 any_join p [] ys h = inr h
 any_join p (x ∷ xs) ys h = elim (or_cases (p x) (list_any p (xs ++ ys)) h) [
@@ -121,38 +76,6 @@ pub list_all_mapped : {X : Type 0} (p : X → Bool) (f : X → X) (xs : List X) 
 list_all_mapped p f [] k h = h
 list_all_mapped p f (x ∷ xs) k h = let q = and_parts (p x) (list_all p xs) h in rw (k x q.0, list_all_mapped p f xs k q.1) refl
 
-pub all_mid : {X : Type 0} (P : X → Type 0) (x : X) (front rest : List X) → AllByRecursion P (front ++ x ∷ rest) → P x
-all_mid P x [] rest h = h.0
-all_mid P x (y ∷ ys) rest h = all_mid P x ys rest h.1
-
-pub take_all : {X : Type 0} (n : ℕ) (xs : List X) → length xs ≤ n → take n xs ≡ xs
-take_all zero [] l = refl
-take_all zero (x ∷ xs) l = absurd (omega (arith, l))
-take_all (suc n) [] l = refl
-take_all (suc n) (x ∷ xs) l = ap (λ z. x ∷ z) (take_all n xs (omega (arith, l)))
-
-pub or_true : (b : Bool) → (b || true) ≡ true
-or_true true = refl
-or_true false = refl
-
-pub all_take : {X : Type 0} (P : X → Type 0) (k : ℕ) (xs : List X) → AllByRecursion P xs → AllByRecursion P (take k xs)
-all_take P zero xs h = tt
-all_take P (suc k) [] h = tt
-all_take P (suc k) (x ∷ xs) h = (h.0, all_take P k xs h.1)
-
-pub all_drop : {X : Type 0} (P : X → Type 0) (k : ℕ) (xs : List X) → AllByRecursion P xs → AllByRecursion P (drop k xs)
-all_drop P zero xs h = h
-all_drop P (suc k) [] h = tt
-all_drop P (suc k) (x ∷ xs) h = all_drop P k xs h.1
-
-pub all_of : {X : Type 0} (P : X → Type 0) (xs : List X) → ((x : X) → P x) → AllByRecursion P xs
-all_of P [] h = tt
-all_of P (x ∷ xs) h = (h x, all_of P xs h)
-
 pub some_held : {X : Type 0} (p : X → Bool) (o : Option X) → holds p o ≡ true → is_some o ≡ true
 some_held p None h = absurd (true≢false (sym h))
 some_held p (Some x) h = refl
-
-pub some_is : {X : Type 0} (o : Option X) → is_some o ≡ true → (x : X) × (o ≡ Some x)
-some_is None e = absurd (true≢false (sym e))
-some_is (Some x) e = (x, refl)

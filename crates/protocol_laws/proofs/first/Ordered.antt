@@ -16,6 +16,7 @@ use Rattle.protocol.specs.Schedule.{Rank, ranked, rank, is_rank_below, IsBelowEa
 use Rattle.protocol_laws.proofs.first.FirstFalse.{allowed_or_refused}
 use Rattle.protocol_laws.proofs.first.Candidates.{allowed_is_candidate}
 use Rattle.protocol_laws.proofs.first.Lists.{all_filter, all_join, all_map, weaker}
+use Rattle.protocol_laws.proofs.first.RangesNamed.{all_below}
 
 -- ---- ranks
 
@@ -46,13 +47,9 @@ rises_end : (ns : List ℕ) (n : ℕ) → AllByRecursion (λ m. m < n) ns → Ri
 rises_end [] n h g = (tt, tt)
 rises_end (m ∷ ns) n h g = (all_join _ ns (n ∷ []) g.0 (h.0, tt), rises_end ns n h.1 g.1)
 
-below_under : (n m : ℕ) → n ≤ m → AllByRecursion (λ i. i < m) (below n)
-below_under zero m h = tt
-below_under (suc n) m h = all_join _ (below n) (n ∷ []) (below_under n m (omega (arith, h))) (omega (arith, h), tt)
-
 below_rises : (n : ℕ) → Rises (below n)
 below_rises zero = tt
-below_rises (suc n) = rises_end (below n) n (below_under n n (omega arith)) (below_rises n)
+below_rises (suc n) = rises_end (below n) n (all_below n n (omega arith)) (below_rises n)
 
 -- ---- lists of events that ascend
 
@@ -68,7 +65,7 @@ joined : (es fs : List Event) → Ascends es → Ascends fs → AllByRecursion (
 joined [] fs h g i = g
 joined (e ∷ es) fs h g i = (each_below (rank e) (es ++ fs) (all_join _ es fs (below_all (rank e) es h.0) (below_all (rank e) fs i.0)), joined es fs h.1 g i.1)
 
-filtered : (p : Event → Bool) (es : List Event) → Ascends es → Ascends (filter p es)
+pub filtered : (p : Event → Bool) (es : List Event) → Ascends es → Ascends (filter p es)
 filtered p [] h = tt
 filtered p (e ∷ es) h = by (p e) (filtered p es h.1)
   where

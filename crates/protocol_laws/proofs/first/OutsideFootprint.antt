@@ -2,13 +2,14 @@
 use Rattle.std.specs.Prelude.{◌≡◌, ◌≢◌, refl, ℕ, ◌+◌, ◌%◌, false, Some, List, length, slice_get}
 use Rattle.std.proofs.Common.{ap}
 use Rattle.std.proofs.lemmas.Bool.{true≢false}
+use Rattle.snap_base.proofs.Lists.{get_other}
 use Rattle.protocol.specs.Fixed.{Fixed}
 use Rattle.protocol.specs.Parts.{Machine}
 use Rattle.protocol.specs.Events.{Event, Submit, Pass, Form, Admit, Arrive, Ask, Take, Run, Send, End, Close, Complete, Sync, Note, Commit, Settle, Abort, Rollback, DropSub, DropControl, Prepare, Vouch, Decide, Seal, Finish, Reply, Trim, footprint}
 use Rattle.protocol.specs.Words.{is_among}
 use Rattle.protocol.specs.Effects.{after}
 use Rattle.protocol_laws.proofs.first.Times
-use Rattle.protocol_laws.proofs.first.PartsByNumber.{not_at, get_other}
+use Rattle.protocol_laws.proofs.first.PartsByNumber.{not_at}
 
 -- ---- what is left
 

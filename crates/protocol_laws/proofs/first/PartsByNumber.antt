@@ -1,7 +1,8 @@
 -- The parts of a state by their numbers.
-use Rattle.std.specs.Prelude.{◌≡◌, ◌≢◌, refl, ℕ, zero, suc, ◌+◌, ◌<◌, ◌==◌, false, Some, option_map, List, [], ◌∷◌, ◌++◌, length, map, slice_get, slice_set}
+use Rattle.std.specs.Prelude.{◌≡◌, ◌≢◌, refl, ℕ, zero, suc, ◌+◌, ◌<◌, ◌==◌, false, Some, option_map, List, [], ◌∷◌, ◌++◌, length, map, slice_get}
 use Rattle.std.proofs.Common.{arith, ap, ◌∙◌}
 use Rattle.std.proofs.lemmas.Bool.{eqb-false, or_parts}
+use Rattle.snap_base.proofs.Lists.{get_left}
 use Rattle.protocol.specs.Parts.{Machine}
 use Rattle.protocol.specs.Events.{Part, LogPart, CellPart, part}
 use Rattle.protocol.specs.Words.{is_among}
@@ -17,22 +18,10 @@ not_at i x n [] h e = absurd (cc e)
 not_at i x zero (y ∷ ys) h e = λ q. eqb-false y i (or_parts (y == i) (is_among i ys) h).0 (number_is y x e ∙ q)
 not_at i x (suc n) (y ∷ ys) h e = not_at i x n ys (or_parts (y == i) (is_among i ys) h).1 e
 
-pub get_other : {X : Type 0} (xs : List X) (i j : ℕ) (x : X) → j ≢ i → slice_get (slice_set xs j x) i ≡ slice_get xs i
-get_other [] i j x h = refl
-get_other (y ∷ ys) zero zero x h = absurd (h refl)
-get_other (y ∷ ys) zero (suc j) x h = refl
-get_other (y ∷ ys) (suc i) zero x h = refl
-get_other (y ∷ ys) (suc i) (suc j) x h = get_other ys i j x (λ e. h (ap suc e))
-
 pub get_map : {X Y : Type 0} (f : X → Y) (xs : List X) (i : ℕ) → slice_get (map f xs) i ≡ option_map f (slice_get xs i)
 get_map f [] i = refl
 get_map f (x ∷ xs) zero = refl
 get_map f (x ∷ xs) (suc i) = get_map f xs i
-
-pub get_left : {X : Type 0} (xs ys : List X) (i : ℕ) → i < length xs → slice_get (xs ++ ys) i ≡ slice_get xs i
-get_left [] ys i h = absurd (omega (arith, h))
-get_left (x ∷ xs) ys zero h = refl
-get_left (x ∷ xs) ys (suc i) h = get_left xs ys i (omega (arith, h))
 
 pub get_right : {X : Type 0} (xs ys : List X) (i : ℕ) → slice_get (xs ++ ys) (length xs + i) ≡ slice_get ys i
 get_right [] ys i = let e : 0 + i ≡ i = omega arith in rw e refl

@@ -3,6 +3,8 @@
 use Rattle.std.specs.Prelude.{◌≡◌, refl, ℕ, zero, suc, ◌+◌, ◌<◌, ◌≤◌, ◌%◌, Option, Some, None, option_map, List, [], ◌∷◌, length, slice_get, slice_set, slice_index_or}
 use Rattle.std.proofs.Common.{arith, sym, ap, mod-lt, inl, inr, ◌∙◌}
 use Rattle.std.proofs.lemmas.Bool.{cases_lt}
+use Rattle.std.proofs.lemmas.Option.{slice_get_past}
+use Rattle.snap_base.proofs.Lists.{set_outside}
 use Rattle.protocol.specs.Fixed.{Fixed}
 use Rattle.protocol.specs.Parts.{Log, Cell, Machine}
 use Rattle.protocol.specs.Events.{Event, Submit, Pass, Form, Admit, Arrive, Ask, Take, Run, Send, End, Close, Complete, Sync, Note, Commit, Settle, Abort, Rollback, DropSub, DropControl, Prepare, Vouch, Decide, Seal, Finish, Reply, Trim, Part, LogPart, CellPart, part, footprint}
@@ -313,16 +315,6 @@ reads_trim w k a s t p q some h =
     let ca = at_get s.cells t.cells a no_cell cg in
     record { asks = rw (ed) refl; parts = (rw (ed) refl, (cell_after (after w (Trim k a) s) (after w (Trim k a) t) w.text.logs a p q (set_same s.cells t.cells a _ _ cg (rw (ca) refl)), tt)) }
 
-past_end : {X : Type 0} (xs : List X) (i : ℕ) → length xs ≤ i → slice_get xs i ≡ None
-past_end [] i h = refl
-past_end (x ∷ xs) zero h = absurd (omega (arith, h))
-past_end (x ∷ xs) (suc i) h = past_end xs i (omega (arith, h))
-
-set_past : {X : Type 0} (xs : List X) (i : ℕ) (x : X) → length xs ≤ i → slice_set xs i x ≡ xs
-set_past [] i x h = refl
-set_past (y ∷ ys) zero x h = absurd (omega (arith, h))
-set_past (y ∷ ys) (suc i) x h = rw (set_past ys i x (omega (arith, h))) refl
-
 reads_sync : {C : Type 0} (w : Fixed C) (l : ℕ) (s t : Machine C) → HasLogs w s → HasLogs w t → SameOn (footprint w.text.logs (Sync l)) s t → ReadsItsParts w (Sync l) s t
 unfolding conditions after
 reads_sync w l s t p q h = elim (cases_lt l w.text.logs) [ inl a ↦ there a | inr b ↦ past b ]
@@ -337,8 +329,8 @@ reads_sync w l s t p q h = elim (cases_lt l w.text.logs) [ inl a ↦ there a | i
 
     past : w.text.logs ≤ l → ReadsItsParts w (Sync l) s t
     past b = record {
-      asks = rw (past_end s.logs l (omega (arith, b, p)), past_end t.logs l (omega (arith, b, q))) refl;
-      parts = (rw (set_past s.logs l (synced (log_at s l)) (omega (arith, b, p)), set_past t.logs l (synced (log_at t l)) (omega (arith, b, q))) h.0, tt);
+      asks = rw (slice_get_past s.logs l (omega (arith, b, p)), slice_get_past t.logs l (omega (arith, b, q))) refl;
+      parts = (rw (set_outside s.logs l (synced (log_at s l)) (omega (arith, b, p)), set_outside t.logs l (synced (log_at t l)) (omega (arith, b, q))) h.0, tt);
     }
 
 pub reads_its_parts : {C : Type 0} (w : Fixed C) (e : Event) (s t : Machine C) → HasLogs w s → HasLogs w t → 1 ≤ w.text.logs → SameOn (footprint w.text.logs e) s t → ReadsItsParts w e s t

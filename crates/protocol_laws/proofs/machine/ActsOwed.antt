@@ -51,6 +51,7 @@ use Rattle.protocol_laws.proofs.machine.ReadersSee.{ReadBy, reads_at, not_read, 
 use Rattle.protocol_laws.proofs.machine.StartsKept.{Starts, Started, NoPact, no_slot, ran_there}
 use Rattle.protocol_laws.proofs.first.Lists.{all_found, some_of, weaker}
 use Rattle.protocol_laws.proofs.first.Statuses.{live_not_doomed, live_unordered, settled_not_formed}
+pub use Rattle.protocol_laws.proofs.machine.BatchesCommit.{good_keys}
 
 -- ---- who has no result is not kept
 
@@ -239,11 +240,6 @@ free_around acts t x now zs (Stands (OfAct n) c ss ∷ rs) (ActEntry e ∷ es) f
     by : (o : Option Act) → is_reader_act o ≡ true → holds (is_free true) o ≡ true
     by None k = k
     by (Some y) k = or_left y.reader _ k
-
-pub good_keys : (a : ℕ) (bs : List Batch) (es : List Entry) → AllByRecursion (EntryOf a bs) es → AllByRecursion (GoodKey a bs) (map key_of es)
-good_keys a bs [] h = tt
-good_keys a bs (BatchEntry b ∷ es) h = ((h.0.0, λ q. refl), good_keys a bs es h.1)
-good_keys a bs (ActEntry x ∷ es) h = ((tt, λ q. absurd (true≢false (sym q))), good_keys a bs es h.1)
 
 -- the slices of an ACT
 act_slices : (t : ℕ) (rs : List Ran) (es : List Entry) → Turns rs es → AllByRecursion (λ z. z.tid ≡ t) (slices_of (OfAct t) rs)

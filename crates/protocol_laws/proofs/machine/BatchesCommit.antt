@@ -2,7 +2,8 @@
 use Rattle.std.specs.Prelude.{◌≡◌, refl, ℕ, ◌+◌, ◌<◌, ◌==◌, nat_le, not, Bool, true, false, ◌&&◌, ◌||◌, if◌then◌else◌, Option, Some, None, is_some, List, [], ◌∷◌, ◌++◌, map, find}
 use Rattle.std.specs.List.{AllByRecursion, list_any, list_all}
 use Rattle.std.proofs.Common.{arith, sym, ap, subst, inl, inr, ◌∙◌}
-use Rattle.std.proofs.lemmas.Bool.{eqb-true, leb-true, and_parts, or_cases, or_parts, or_left, or_right, true≢false, cases_Bool, false_from_ne_true, not-true}
+use Rattle.std.proofs.lemmas.Bool.{eqb-true, leb-true, and_parts, or_cases, or_parts, or_left, or_right, true≢false, cases_Bool, false_from_ne_true}
+use Rattle.snap_base.proofs.Booleans.{not_false}
 use Rattle.protocol.specs.Fixed.{Fixed, Next, Go, Ended}
 use Rattle.protocol.specs.Parts.{Cascade, Who, OfBatch, OfAct, Batch, Pact, Committing, Settled, Declared, SubBatch, Entry, BatchEntry, ActEntry, Outcome, Machine}
 use Rattle.protocol.specs.Events.{Event, Form, Arrive, End, Note, Commit, Settle, Abort, Trim}
@@ -32,6 +33,7 @@ use Rattle.protocol_laws.proofs.machine.CommitsKept.{MayCommit}
 use Rattle.protocol_laws.proofs.first.Lists.{all_back, all_found}
 use Rattle.protocol_laws.proofs.first.Statuses.{if_bid}
 use Rattle.protocol_laws.proofs.machine.TrailsKept.{new_tids}
+pub use Rattle.protocol_laws.proofs.machine.PlaceLists.{ascends_back}
 
 -- ---- PACTs of a batch ascend
 
@@ -91,9 +93,6 @@ list_all_at p q x (y ∷ ys) f h = let a = and_parts (q y) (list_all q ys) h in 
     by : (b : Bool) → (if b then Some y else find p ys) ≡ Some x → q y ≡ true → (find p ys ≡ Some x → q x ≡ true) → q x ≡ true
     by true f a k = let e : y ≡ x = cc f in subst (λ z. q z ≡ true) e a
     by false f a k = k f
-
-not_false : (b : Bool) → not b ≡ true → b ≡ false
-not_false b h = not-true b h
 
 -- a batch that committed has its noted places, and is over there
 pub kept_over : {C : Type 0} (s : Machine C) (h : History) (k a : ℕ) → Known s h → Marked s h → is_kept (OfBatch k) h.kept ≡ true → is_declared k a s.desk.batches ≡ true → IsAbortedOrDone k s.book.cascades (h.long a)
@@ -179,10 +178,6 @@ pub not_among_ahead : (kept : List Who) (who : Who) (rs : List Ran) → is_key_a
 not_among_ahead kept who [] h = tt
 not_among_ahead kept who (Stands y c ss ∷ rs) h = let p = or_parts (is_who y who) (is_key_among who (keys_in rs)) h in (λ q. absurd (true≢false (sym q ∙ p.1)), not_among_ahead kept who rs p.1)
 not_among_ahead kept who (Gone y ss ∷ rs) h = not_among_ahead kept who rs h
-
-pub ascends_back : (xs ys : List ℕ) → Ascends (xs ++ ys) → Ascends ys
-ascends_back [] ys h = h
-ascends_back (x ∷ xs) ys h = ascends_back xs ys h.1
 
 -- no number is below itself: it does not stand behind itself
 pub not_again : (k : ℕ) (rs : List Ran) → AllByRecursion (λ j. k < j) (batches_in rs) → is_key_among (OfBatch k) (keys_in rs) ≡ false

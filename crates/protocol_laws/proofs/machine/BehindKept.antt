@@ -1,13 +1,13 @@
 -- An ACT that stands behind an aborted batch is given up.
-use Rattle.std.specs.Prelude.{◌≡◌, refl, ℕ, suc, ◌-◌, ◌≤◌, ◌<◌, ◌==◌, nat_le, nat_lt, max, Bool, true, false, ◌⊎◌, ◌&&◌, ◌||◌, if◌then◌else◌, Option, Some, None, is_some, List, [], ◌∷◌, ◌++◌, length, map, filter}
+use Rattle.std.specs.Prelude.{◌≡◌, refl, ℕ, ◌-◌, ◌≤◌, ◌<◌, ◌==◌, nat_le, max, Bool, true, false, ◌⊎◌, ◌&&◌, ◌||◌, if◌then◌else◌, Option, Some, None, is_some, List, [], ◌∷◌, ◌++◌, length, map}
 use Rattle.std.specs.List.{AllByRecursion}
 use Rattle.std.proofs.Common.{arith, sym, ap, subst, inl, inr, ◌∙◌}
 use Rattle.std.proofs.lemmas.List.{append-nil}
-use Rattle.std.proofs.lemmas.Bool.{true≢false, eqb-true, leb-true, ltb-true, le-leb, and_parts, or_cases, or_left, or_right, cases_Bool}
+use Rattle.std.proofs.lemmas.Bool.{true≢false, eqb-true, leb-true, le-leb, and_parts, or_cases, or_left, or_right, cases_Bool}
 use Rattle.protocol.specs.Fixed.{Fixed}
 use Rattle.protocol.specs.Parts.{Act, Cascade, Status, Live, Doomed, Decided, Sealed, Who, OfBatch, OfAct, Machine}
 use Rattle.protocol.specs.Events.{Event, Admit, Arrive, Ask, Run, End, Complete, Abort, Rollback, Decide, Finish, Trim}
-use Rattle.protocol.specs.Words.{holds, covers, is_aborted, is_doomed, is_live_status, is_value, is_who, act_of, epoch_of, is_ordered, lock_of}
+use Rattle.protocol.specs.Words.{holds, covers, is_aborted, is_doomed, is_live_status, is_value, is_who, act_of, is_ordered, lock_of}
 use Rattle.protocol.specs.Conditions.{IsAllowed, conditions, epoch}
 use Rattle.protocol.specs.Effects.{after, cell_at, no_cell}
 use Rattle.protocol.specs.OnBook as book
@@ -18,7 +18,6 @@ use Rattle.protocol_laws.specs.Told.{EachAct}
 use Rattle.protocol_laws.specs.Places.{FitsCell}
 use Rattle.protocol_laws.specs.Tracks.{keys_in, is_key_among}
 use Rattle.protocol_laws.specs.Befores.{is_above, Befores}
-use Rattle.protocol_laws.proofs.first.EpochsKept as epochs
 use Rattle.protocol_laws.proofs.first.SettlingKept as settling
 use Rattle.protocol_laws.proofs.first.SettlingKeys as keys
 use Rattle.protocol_laws.proofs.machine.TrackLists
@@ -29,8 +28,9 @@ use Rattle.protocol_laws.proofs.machine.CommitsKept.{beside_carried}
 use Rattle.protocol_laws.proofs.machine.ActsFound as acts
 use Rattle.protocol_laws.proofs.machine.ActsFound.{Holds}
 use Rattle.protocol_laws.proofs.machine.ActsKept.{Acts}
-use Rattle.protocol_laws.proofs.machine.QueuedKept.{in_book}
+use Rattle.protocol_laws.proofs.machine.QueuedKept.{in_book, found_some}
 use Rattle.protocol_laws.proofs.first.Statuses.{doomed_decided, doomed_sealed}
+use Rattle.protocol_laws.proofs.machine.OversKept.{aborted_low}
 
 abbrev pub is_out : Act → Bool
 is_out x = is_doomed x.status
@@ -58,10 +58,6 @@ each_to_holds q t xs e h = by (act_of t xs) refl e
 pub holds_to_each : (q : Act → Bool) (t : ℕ) (xs : List Act) → holds q (act_of t xs) ≡ true → EachAct (λ u x. u ≡ t → q x ≡ true) xs
 holds_to_each q t xs h = λ u x e i. subst (λ z. holds q z ≡ true) (ap (λ z. act_of z xs) (sym i) ∙ e) h
 
-pub holds_some : (q : Act → Bool) (o : Option Act) → holds q o ≡ true → is_some o ≡ true
-holds_some q None e = absurd (true≢false (sym e))
-holds_some q (Some x) e = refl
-
 out_holds : (t : ℕ) → Holds (λ u x. u ≡ t → is_out x ≡ true)
 out_holds t = record { numbered = λ u x n p. p; marked = λ u a x f i p. p; sealed = λ u x p i. doomed_sealed x.status (p i); doomed = λ u x v l p i. refl; rises = λ u k x l p. p }
 
@@ -74,7 +70,7 @@ ready_out w (Decide u) s t h = λ x e p i. doomed_decided s.book.next_c (is_valu
 ready_out w e s t h = tt
 
 pub out_stays : {C : Type 0} (w : Fixed C) (e : Event) (s : Machine C) (t : ℕ) → holds is_out (act_of t s.book.acts) ≡ true → holds is_out (act_of t (after w e s).book.acts) ≡ true
-out_stays w e s t h = each_to_holds is_out t (after w e s).book.acts (in_book w e s t (holds_some is_out (act_of t s.book.acts) h)) (acts.acts_keep w e s (λ u x. u ≡ t → is_out x ≡ true) (out_holds t) (ready_out w e s t h) (holds_to_each is_out t s.book.acts h))
+out_stays w e s t h = each_to_holds is_out t (after w e s).book.acts (in_book w e s t (found_some is_out (act_of t s.book.acts) h)) (acts.acts_keep w e s (λ u x. u ≡ t → is_out x ≡ true) (out_holds t) (ready_out w e s t h) (holds_to_each is_out t s.book.acts h))
 
 -- ---- lists
 
@@ -173,21 +169,10 @@ cascade acts acts' cs d top bad bad' (Gone (OfAct t) ss ∷ rs) k m b n h = casc
 
 -- ---- all events
 
-covered_is_less : (k : ℕ) (ds : List Cascade) → is_aborted k ds ≡ true → epoch_of k ds < length ds
-covered_is_less k [] q = absurd (true≢false (sym q))
-covered_is_less k (d ∷ ds) q = by (covers k d) (nat_lt d.upto k) refl refl q (covered_is_less k ds)
-  where
-    by : (b c : Bool) → covers k d ≡ b → nat_lt d.upto k ≡ c → (b || is_aborted k ds) ≡ true → (is_aborted k ds ≡ true → epoch_of k ds < length ds)
-        → length (if c then d ∷ filter (λ x. nat_lt x.upto k) ds else filter (λ x. nat_lt x.upto k) ds) < suc (length ds)
-    by true true f g q r = absurd (omega (arith, ltb-true d.upto k g, leb-true k d.upto (and_parts (nat_le d.first k) (nat_le k d.upto) f).1))
-    by true false f g q r = omega (arith, epochs.epoch_most k ds)
-    by false true f g q r = omega (arith, r q)
-    by false false f g q r = omega (arith, r q)
-
 -- an actor of the present epoch has no aborted batch
 pub clean : (next : ℕ) (cs : List Cascade) (ep tail : ℕ) (ks : List ℕ) → ep ≡ length cs → AllByRecursion (FitsCell next cs ep tail) ks → AllByRecursion (λ k. is_aborted k cs ≡ false) ks
 clean next cs ep tail [] e h = tt
-clean next cs ep tail (k ∷ ks) e h = (elim (cases_Bool (is_aborted k cs)) [ inl a ↦ absurd (omega (arith, covered_is_less k cs a, h.0.aborted a, e)) | inr b ↦ b ], clean next cs ep tail ks e h.1)
+clean next cs ep tail (k ∷ ks) e h = (elim (cases_Bool (is_aborted k cs)) [ inl a ↦ absurd (omega (arith, aborted_low k cs a, h.0.aborted a, e)) | inr b ↦ b ], clean next cs ep tail ks e h.1)
 
 ask : (acts : List Act) (cs : List Cascade) (t : ℕ) (o : Option ℕ) (rs : List Ran) → AllByRecursion (λ k. is_aborted k cs ≡ false) (batches_in rs) → Behind acts cs false rs → Behind acts cs false (rs ++ map not_run (asks t o))
 ask acts cs t None rs a h = more_act acts cs false t rs refl a h
@@ -227,7 +212,7 @@ behind_moves w (Run t a) s h ok z p n i g f = beside_carried (λ b rs. Behind s.
 behind_moves w (Complete k a) s h ok z p n i g f = beside_carried (λ b rs. Behind s.book.acts s.book.cascades false rs) a _ h.long (complete s.book.acts s.book.cascades false k (h.long a)) f
 behind_moves w (Abort k) s h ok z p n i g f = λ a. cascade s.book.acts (after w (Abort k) s).book.acts s.book.cascades (record { first = k; upto = s.ring.next_bid - 1; by = book.failed_tx (book.why k s.desk); at = s.book.next_c; code = book.failed_code (book.why k s.desk) }) 0 false false (h.long a)
     (λ t q. out_stays w (Abort k) s t q)
-    (λ t m l q. each_to_holds is_out t (after w (Abort k) s).book.acts (in_book w (Abort k) s t (holds_some (is_above m) (act_of t s.book.acts) q))
+    (λ t m l q. each_to_holds is_out t (after w (Abort k) s).book.acts (in_book w (Abort k) s t (found_some (is_above m) (act_of t s.book.acts) q))
     (acts.each_map (λ u x. (is_ordered x.status ≡ true → x.m ≤ s.desk.settled) × (u ≡ t → is_above m x ≡ true)) (λ u x. u ≡ t → is_out x ≡ true) (book.cascaded k (book.failed_tx (book.why k s.desk))) s.book.acts (λ x. refl)
     (λ u x e v j. taken_along k (book.failed_tx (book.why k s.desk)) s.desk.settled x (settling.aborts_above w s k ok z) v.0 (above_less k m x l (v.1 j))) (λ u x e. ((i u x e).settles, holds_to_each (is_above m) t s.book.acts q u x e))))
     (λ e. absurd (true≢false (sym e))) (n a) (g a)

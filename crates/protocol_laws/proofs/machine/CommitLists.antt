@@ -5,6 +5,7 @@ use Rattle.std.proofs.Common.{arith, sym, ap, subst, inl, inr, ◌∙◌}
 use Rattle.std.proofs.lemmas.List.{append-nil, append_assoc}
 use Rattle.std.proofs.lemmas.Bool.{eqb-true, eq-eqb, ne_eqb, cases_eq, or_cases, or_parts, true≢false, false_from_ne_true}
 use Rattle.snap_base.specs.declared.transactions.State.{State}
+use Rattle.snap_base.proofs.Booleans.{or_false}
 use Rattle.protocol.specs.Parts.{Cascade, Who, OfBatch, Pact}
 use Rattle.protocol.specs.Words.{is_among, is_who, is_value}
 use Rattle.protocol.specs.OnCell.{is_cut}
@@ -16,10 +17,6 @@ use Rattle.protocol_laws.specs.Turns.{Rising}
 use Rattle.protocol_laws.proofs.machine.TrackLists
 use Rattle.protocol_laws.proofs.machine.TrackLists.{linked_parts, is_who_true}
 use Rattle.protocol_laws.proofs.first.Lists.{or_true}
-
-pub or_false : (b : Bool) → (b || false) ≡ b
-or_false true = refl
-or_false false = refl
 
 pub linked_one : (first m n : State) (xs : List Slice) → Linked first xs m → Linked first xs n → m ≡ n
 linked_one first m n [] h g = sym h ∙ g

@@ -3,6 +3,7 @@ use Rattle.std.specs.Prelude.{◌≡◌, refl, ℕ, zero, suc, ◌%◌, ◌<◌,
 use Rattle.std.specs.List.{list_any}
 use Rattle.std.proofs.Common.{arith, sym, ap, subst, inl, inr, ◌∙◌}
 use Rattle.std.proofs.lemmas.Bool.{true≢false, eqb-true, eq-eqb, and_parts, or_cases, or_left, or_right, lt-ltb, cases_lt}
+use Rattle.std.proofs.lemmas.List.{take_all}
 use Rattle.snap_base.specs.declared.transactions.TxResult.{TxResult}
 use Rattle.protocol.specs.Fixed.{Fixed, IsText, Next, Go, Ended}
 use Rattle.protocol.specs.Records.{LogRecord, is_commit, is_act_commit}
@@ -25,7 +26,7 @@ use Rattle.protocol_laws.proofs.machine.ActsFound.{Holds}
 use Rattle.protocol_laws.proofs.machine.ActResults as results
 use Rattle.protocol_laws.proofs.machine.ActResults.{NoneActed, NoActResult}
 use Rattle.protocol_laws.proofs.machine.ActsKept.{Acts}
-use Rattle.protocol_laws.proofs.first.Lists.{some_of, take_all}
+use Rattle.protocol_laws.proofs.first.Lists.{some_of}
 use Rattle.protocol_laws.proofs.first.Statuses.{committing_not_formed, if_bid, ordered_sealed, sealed_not_decided}
 use Rattle.protocol_laws.proofs.first.OnePlace.{remainder}
 

@@ -27,10 +27,11 @@ use Rattle.protocol_laws.proofs.machine.ActResults as results
 use Rattle.protocol_laws.proofs.machine.ActResults.{NoneActed}
 use Rattle.protocol_laws.proofs.machine.ActsKept.{Acts}
 use Rattle.protocol_laws.proofs.machine.QueuedKept.{in_book, found_some}
-use Rattle.protocol_laws.proofs.machine.BehindKept.{Behind, AllBehind, each_to_holds, holds_to_each, holds_some}
+use Rattle.protocol_laws.proofs.machine.BehindKept.{Behind, AllBehind, each_to_holds, holds_to_each}
 use Rattle.protocol_laws.proofs.machine.BehindKept.{none_bad}
 use Rattle.protocol_laws.proofs.first.Lists.{all_join, weaker}
 use Rattle.protocol_laws.proofs.first.Statuses.{not_doomed_decided, sealed_doomed}
+use Rattle.protocol_laws.proofs.machine.TrackLists.{among_completed}
 
 -- ---- which actors it has not left
 
@@ -185,7 +186,7 @@ open_ready w e s t b n q = tt
 
 open_stays : {C : Type 0} (w : Fixed C) (e : Event) (s : Machine C) (t b : ℕ) → NotLeaving e t b → holds (open_at b) (act_of t s.book.acts) ≡ true → holds (open_at b) (act_of t (after w e s).book.acts) ≡ true
 open_stays w e s t b n h =
-    let i = holds_some (open_at b) (act_of t s.book.acts) h in
+    let i = found_some (open_at b) (act_of t s.book.acts) h in
     each_to_holds (open_at b) t (after w e s).book.acts (in_book w e s t i) (acts.acts_move w e s (λ u x. u ≡ t → open_at b x ≡ true) (open_holds t b) (open_ready w e s t b n i) (holds_to_each (open_at b) t s.book.acts h))
 
 weaker_keys : (b : ℕ) (xs ys : List Act) (ks : List Key) → ((t : ℕ) → is_key_among (OfAct t) ks ≡ true → holds (open_at b) (act_of t xs) ≡ true → holds (open_at b) (act_of t ys) ≡ true) → KeysOpen b xs ks → KeysOpen b ys ks
@@ -320,10 +321,6 @@ Has t c = is_key_among (OfAct t) (map key_of c.entries) ≡ true
 
 among_more : (who : Who) (es new : List Entry) → is_key_among who (map key_of es) ≡ true → is_key_among who (map key_of (es ++ new)) ≡ true
 among_more who es new h = ap (is_key_among who) (TrackLists.entries_join es new) ∙ (TrackLists.among_join who (map key_of es) (map key_of new) ∙ or_left (is_key_among who (map key_of es)) _ h)
-
-among_completed : (k : ℕ) (who : Who) (ks : List Key) → is_key_among who (map (TrackLists.key_completed k) ks) ≡ is_key_among who ks
-among_completed k who [] = refl
-among_completed k who (y ∷ ks) = ap (λ z. is_who y.who who || z) (among_completed k who ks)
 
 among_without : (who v : Who) (ks : List Key) → is_who who v ≡ false → is_key_among who ks ≡ true → is_key_among who (TrackLists.keys_without v ks) ≡ true
 among_without who v [] e h = h

@@ -3,6 +3,7 @@ use Rattle.std.specs.Prelude.{◌≡◌, refl, ℕ, zero, suc, ◌<◌, ◌%◌,
 use Rattle.std.specs.List.{AllByRecursion, list_any, list_all}
 use Rattle.std.proofs.Common.{arith, sym, ap, subst, inl, inr, ◌∙◌}
 use Rattle.std.proofs.lemmas.Bool.{eqb-true, and_parts, or_cases, or_left, or_right, true≢false, cases_Bool, false_from_ne_true}
+use Rattle.snap_base.proofs.Booleans.{or_false}
 use Rattle.protocol.specs.Fixed.{Fixed, Next, Go, Ended}
 use Rattle.protocol.specs.Records.{LogRecord, is_complete}
 use Rattle.protocol.specs.Parts.{Act, Desk, Cascade, Who, OfBatch, OfAct, Batch, Declared, Committing, Settled, Entry, BatchEntry, ActEntry, Outcome, Log, Cell, Machine}
@@ -26,7 +27,6 @@ use Rattle.protocol_laws.proofs.machine.PlaceLists
 use Rattle.protocol_laws.proofs.machine.PlacesKept.{Placed}
 use Rattle.protocol_laws.proofs.first.Lists.{all_back, all_map, any_front, any_join, any_take, list_all_mapped, weaker}
 use Rattle.protocol_laws.proofs.first.Statuses.{committing_not_formed, if_bid}
-use Rattle.protocol_laws.proofs.machine.CommitLists.{or_false}
 use Rattle.protocol_laws.proofs.machine.PlaceLists.{ascends_back}
 
 -- ---- lists

@@ -107,7 +107,7 @@ ascends_back [] ys h = h
 ascends_back (x ∷ xs) ys h = ascends_back xs ys h.1
 
 -- what a rollback leaves of the batches
-stay_all : (P : ℕ → Type 0) (cs : List Cascade) (rs : List Ran) → AllByRecursion P (batches_in rs) → AllByRecursion P (batches_in (long_staying cs rs))
+pub stay_all : (P : ℕ → Type 0) (cs : List Cascade) (rs : List Ran) → AllByRecursion P (batches_in rs) → AllByRecursion P (batches_in (long_staying cs rs))
 stay_all P cs [] h = tt
 stay_all P cs (Stands y c ss ∷ rs) h = by (is_cut cs y) (stay_all P cs rs (all_back P (batch_in y) (batches_in rs) h))
   where

@@ -1,5 +1,5 @@
 -- PACTs of the desk are PACTs of the text, and the actors of batches exist.
-use Rattle.std.specs.Prelude.{◌≡◌, refl, ℕ, zero, suc, ◌+◌, ◌%◌, ◌≤◌, ◌<◌, ◌==◌, Bool, true, false, ◌⊎◌, if◌then◌else◌, Option, Some, None, is_some, List, [], ◌∷◌, ◌++◌, length, map, take, replicate, slice_set, ◌&&◌, not}
+use Rattle.std.specs.Prelude.{◌≡◌, refl, ℕ, zero, suc, ◌+◌, ◌%◌, ◌≤◌, ◌<◌, ◌==◌, Bool, true, false, ◌⊎◌, if◌then◌else◌, Option, Some, None, is_some, List, [], ◌∷◌, ◌++◌, length, map, take, replicate, ◌&&◌, not}
 use Rattle.std.specs.List.{AllByRecursion}
 use Rattle.std.proofs.Common.{arith, sym, ap, subst, inl, inr, ◌∙◌}
 use Rattle.std.proofs.lemmas.Bool.{true≢false, eqb-true, eq-eqb, ne_eqb, or_cases, le-leb}
@@ -27,10 +27,8 @@ use Rattle.protocol_laws.proofs.machine.Resting.{EachPact}
 use Rattle.protocol_laws.proofs.machine.ActsFound
 use Rattle.protocol_laws.proofs.machine.ActsKept.{KnownActs, settled_rises}
 use Rattle.protocol_laws.proofs.first.Lists.{all_drop, all_filter, all_get, all_join, all_map, all_set, all_take, both_all, weaker}
-use Rattle.protocol_laws.proofs.first.EpochsKept.{below_all}
+use Rattle.protocol_laws.proofs.first.EpochsKept.{below_all, length_lasts}
 use Rattle.protocol_laws.proofs.first.RangesNamed.{cells_stay}
-
--- ---- lists
 
 -- ---- what waits at the coordinators as PACTs are PACTs
 
@@ -134,17 +132,13 @@ places_stay w (Abort k) s n l h = all_map _ _ (desk.taken k) s.desk.batches (λ 
 places_stay w (Trim k a) s n l h = all_map _ _ _ s.desk.batches (λ b i. if_places n (b.bid == k) (desk.marked a desk.is_trimmed) b (λ j. marked_places n a desk.is_trimmed b.places (λ p. refl) j) i) h
 places_stay w e s n l h = h
 
-pub lasts_length : (k : ℕ) (actors lasts : List ℕ) → length (ring.with_lasts k actors lasts) ≡ length lasts
-lasts_length k [] lasts = refl
-lasts_length k (a ∷ actors) lasts = lasts_length k actors (slice_set lasts a k) ∙ Times.length_set lasts a k
-
 pub replicated : {X : Type 0} (n : ℕ) (x : X) → length (replicate n x) ≡ n
 replicated zero x = refl
 replicated (suc n) x = ap suc (replicated n x)
 
 lasts_stay : {C : Type 0} (w : Fixed C) (e : Event) (s : Machine C) → length (after w e s).ring.lasts ≡ length s.ring.lasts
 unfolding after
-lasts_stay w (Form k) s = lasts_length k (ring.next_actors w.text s.ring) s.ring.lasts
+lasts_stay w (Form k) s = length_lasts k (ring.next_actors w.text s.ring) s.ring.lasts
 lasts_stay w (Abort k) s = replicated (length s.ring.lasts) 0
 lasts_stay w e s = refl
 

@@ -2,15 +2,16 @@
 use Rattle.std.specs.Prelude.{◌≡◌, refl, ℕ, ◌+◌, ◌%◌, ◌≤◌, ◌==◌, not, Bool, true, false, ◌&&◌, if◌then◌else◌, Option, Some, None, is_some, List, [], ◌∷◌, ◌++◌, map, find}
 use Rattle.std.specs.List.{AllByRecursion, list_all}
 use Rattle.std.proofs.Common.{arith, sym, ap, subst, inl, inr, ◌∙◌}
-use Rattle.std.proofs.lemmas.Bool.{true≢false, eqb-true, eq-eqb, and_parts, and_from, or_cases, or_parts, false_from_ne_true, not-true}
+use Rattle.std.proofs.lemmas.Bool.{true≢false, eqb-true, eq-eqb, and_parts, and_from, or_parts, false_from_ne_true, not-true}
 use Rattle.snap_base.specs.declared.transactions.TxResult.{TxResult}
 use Rattle.snap_base.specs.declared.verdicts.Verdict.{Verdict}
 use Rattle.snap_base.specs.declared.transactions.TxResult.TheVariants.{Value, Fail}
+use Rattle.snap_base.proofs.Options.{somebody}
 use Rattle.protocol.specs.Fixed.{Fixed}
 use Rattle.protocol.specs.Records.{is_commit, is_act_commit}
 use Rattle.protocol.specs.Parts.{Act, Batch, Cascade, Pact, Stage, Formed, Committing, Settled, Status, Live, Doomed, Decided, Sealed, Who, OfBatch, OfAct, Machine}
 use Rattle.protocol.specs.Events.{Event, Form, End, Commit, Settle, Decide, Seal}
-use Rattle.protocol.specs.Words.{holds, is_value, is_decided, is_formed, is_committing, is_settled, is_aborted, is_durable, is_who, is_ended, covers, act_of, batch_of, outcome_of}
+use Rattle.protocol.specs.Words.{holds, is_value, is_decided, is_formed, is_committing, is_settled, is_aborted, is_durable, is_ended, covers, act_of, batch_of, outcome_of}
 use Rattle.protocol.specs.Verdicts.{verdict, verdict_of_pact, verdict_of_act, verdict_in_batch, pact_verdict, settled_verdict, act_verdict, ended_at, or_else, pact_place, act_place}
 use Rattle.protocol.specs.Conditions.{IsAllowed, conditions}
 use Rattle.protocol.specs.Numbers.{flat, times, one_if, once_in, TransactionsInOnePlace}
@@ -31,8 +32,9 @@ use Rattle.protocol_laws.proofs.machine.Resting.{NoResult, NoneNoted}
 use Rattle.protocol_laws.proofs.machine.ActsTold.{AllFrom, at_placed}
 use Rattle.protocol_laws.proofs.machine.CommitRecords as records
 use Rattle.protocol_laws.proofs.machine.CommitRecords.{BatchHolds, ActsRecorded, BatchesRecorded, batches_keep}
-use Rattle.protocol_laws.proofs.first.Lists.{all_found, all_join, some_is}
+use Rattle.protocol_laws.proofs.first.Lists.{all_found, all_join}
 use Rattle.protocol_laws.proofs.first.Statuses.{value_some}
+use Rattle.protocol_laws.proofs.machine.ShowsKept.{kept_join, kept_last}
 
 -- ---- what committed of a batch is among its PACTs
 
@@ -68,18 +70,10 @@ stays_ready w (Commit i) s h k d ok n e = λ b f p. p
 stays_ready w (Settle i) s h k d ok n e = λ b f p. p
 stays_ready w e s h k d ok n q = tt
 
-more_kept : (y : Who) (xs ys : List Who) → is_kept y xs ≡ true → is_kept y (xs ++ ys) ≡ true
-more_kept y [] ys h = absurd (true≢false (sym h))
-more_kept y (x ∷ xs) ys h = elim (or_cases (is_who x y) (is_kept y xs) h) [ inl q ↦ Rattle.std.proofs.lemmas.Bool.or_left (is_who x y) _ q | inr q ↦ Rattle.std.proofs.lemmas.Bool.or_right (is_who x y) _ (more_kept y xs ys q) ]
-
-new_kept : (k : ℕ) (xs : List Who) → is_kept (OfBatch k) (xs ++ OfBatch k ∷ []) ≡ true
-new_kept k [] = Rattle.std.proofs.lemmas.Bool.or_left (k == k) _ (eq-eqb k k refl)
-new_kept k (x ∷ xs) = Rattle.std.proofs.lemmas.Bool.or_right (is_who x (OfBatch k)) _ (new_kept k xs)
-
 kept_grows : {C : Type 0} (w : Fixed C) (e : Event) (s : Machine C) (h : History) (y : Who) → is_kept y h.kept ≡ true → is_kept y (grown w e s h).kept ≡ true
 unfolding grown
-kept_grows w (Commit k) s h y g = more_kept y h.kept _ g
-kept_grows w (Decide t) s h y g = more_kept y h.kept _ g
+kept_grows w (Commit k) s h y g = kept_join y h.kept _ g
+kept_grows w (Decide t) s h y g = kept_join y h.kept _ g
 kept_grows w e s h y g = g
 
 stays_from : {C : Type 0} (w : Fixed C) (e : Event) (s : Machine C) (h : History) (ds : List Done) → IsAllowed w e s → AllControls (NoneNoted s) s → Known s h → FromBatches s.desk.batches h.kept ds → FromBatches (after w e s).desk.batches (grown w e s h).kept ds
@@ -112,7 +106,7 @@ from_kept {C} w (Commit k) s h ok n kn g = all_join _ h.committed _ (stays_from 
   where
     by : (o : Option Batch) → batch_of k s.desk.batches ≡ o → holds (λ b. list_all (λ p. is_value p.result) b.pacts) o ≡ true → FromBatches (after w (Commit k) s).desk.batches (h.kept ++ OfBatch k ∷ []) (done_batch k h o)
     by None e v = tt
-    by (Some b) e v = committed_now k h (after w (Commit k) s).desk.batches (h.kept ++ OfBatch k ∷ []) b.pacts b.pacts (new_kept k h.kept)
+    by (Some b) e v = committed_now k h (after w (Commit k) s).desk.batches (h.kept ++ OfBatch k ∷ []) b.pacts b.pacts (kept_last k h.kept)
         (records.batch_map (λ j c. j ≡ k → c.pacts ≡ b.pacts) (λ j c. j ≡ k → c.pacts ≡ b.pacts) (λ c. desk.change_if (c.bid == k) (desk.with_stage Committing) c) s.desk.batches (λ c. same_bid (c.bid == k) c) (λ j c f p q. same_pacts (c.bid == k) c ∙ p q) (λ j c f q. ap (λ z. z.pacts) (the_one c (ap (λ z. batch_of z s.desk.batches) (sym q) ∙ f))))
         (λ P a. a) v
       where
@@ -334,8 +328,8 @@ unfolding AllFrom PactsFrom Known
 all_told w s h q o g m kn ra rb fa fp = each h.committed fa fp
   where
     one : (d : Done) → ((t : ℕ) → d.who ≡ OfAct t → Rattle.protocol_laws.specs.Told.DoneFrom s.book.acts t d) → ((k : ℕ) → d.who ≡ OfBatch k → PactFrom s.desk.batches h.kept k d) → (y : Who) → d.who ≡ y → IsTold s d
-    one d a b (OfBatch k) e = let f = b k e in let c = some_is (batch_of k s.desk.batches) (kn k f.kept) in pact_told w s h k d c.0 o g (quiet_settled w s h k d c.0 q g m rb c.1 f) c.1 f
-    one d a b (OfAct t) e = let f = a t e in let x = some_is (act_of t s.book.acts) f.there in act_told w s t d x.0 o (quiet_sealed w s t d x.0 q ra x.1 (f.is_it t x.0 x.1 refl)) x.1 (f.is_it t x.0 x.1 refl)
+    one d a b (OfBatch k) e = let f = b k e in let c = somebody (batch_of k s.desk.batches) (kn k f.kept) in pact_told w s h k d c.0 o g (quiet_settled w s h k d c.0 q g m rb c.1 f) c.1 f
+    one d a b (OfAct t) e = let f = a t e in let x = somebody (act_of t s.book.acts) f.there in act_told w s t d x.0 o (quiet_sealed w s t d x.0 q ra x.1 (f.is_it t x.0 x.1 refl)) x.1 (f.is_it t x.0 x.1 refl)
 
     each : (ds : List Done) → AllByRecursion (λ d. (t : ℕ) → d.who ≡ OfAct t → Rattle.protocol_laws.specs.Told.DoneFrom s.book.acts t d) ds → FromBatches s.desk.batches h.kept ds → AllByRecursion (λ d. IsTold s d) ds
     each [] a b = tt

@@ -12,14 +12,14 @@ use Rattle.protocol.specs.Effects.{after, no_cell}
 use Rattle.protocol.specs.OnBook as book
 use Rattle.protocol.specs.History.{History, grown, kept_reader}
 use Rattle.protocol_laws.proofs.first.Lists.{all_join, weaker}
-use Rattle.protocol_laws.proofs.first.Statuses.{live_unordered, ordered_sealed}
+use Rattle.protocol_laws.proofs.first.Statuses.{live_unordered, ordered_sealed, ordered_decided}
 use Rattle.protocol_laws.proofs.machine.ActsFound as acts
 use Rattle.protocol_laws.proofs.machine.ActsFound.{Holds}
 use Rattle.protocol_laws.proofs.machine.ActResults as results
 use Rattle.protocol_laws.proofs.machine.ActResults.{NoneActed}
-use Rattle.protocol_laws.proofs.machine.BehindKept.{each_to_holds, holds_to_each, holds_some}
+use Rattle.protocol_laws.proofs.machine.BehindKept.{each_to_holds, holds_to_each}
 use Rattle.protocol_laws.proofs.machine.ControlWalk.{AllControls}
-use Rattle.protocol_laws.proofs.machine.QueuedKept.{in_book}
+use Rattle.protocol_laws.proofs.machine.QueuedKept.{in_book, found_some}
 use Rattle.protocol_laws.proofs.machine.TracksKept.{held}
 use Rattle.protocol_laws.proofs.machine.TurnsKept.{one_is}
 
@@ -32,12 +32,6 @@ ReaderIn acts (OfAct t) = holds reads_with_value (act_of t acts) ≡ true
 
 unfoldable pub ReadersOf : {C : Type 0} → Machine C → History → Type 0
 ReadersOf s h = AllByRecursion (ReaderIn s.book.acts) h.kept_readers
-
-placed_decided : (c : ℕ) (v : Bool) (st : Status) → is_ordered st ≡ true → is_ordered (book.decided_status c v st) ≡ true
-placed_decided c v Live e = absurd (true≢false (sym e))
-placed_decided c v (Doomed d) e = absurd (true≢false (sym e))
-placed_decided c v (Decided d) e = refl
-placed_decided c v (Sealed d) e = refl
 
 holds_reads : (t : ℕ) → Holds (λ u x. u ≡ t → reads_with_value x ≡ true)
 holds_reads t = record {
@@ -56,12 +50,12 @@ ready_reads w (End u a) s t ok n h = λ x r e p i.
     let none = results.outcome_none (λ x. is_ended x.next) u a s (held (λ c. holds (λ x. is_ended x.next) (outcome_of u c.outbox)) s.cells a no_cell ok.0) n in
     let q = (and_parts (is_value x.result) x.reader (and_parts (is_ordered x.status) (is_value x.result && x.reader) (p i)).1).0 in
     absurd (true≢false (sym q ∙ ap is_value (none u x e refl)))
-ready_reads w (Decide u) s t ok n h = λ x e p i. let q = and_parts (is_ordered x.status) (is_value x.result && x.reader) (p i) in and_from (is_ordered (book.decided_status s.book.next_c (is_value x.result) x.status)) (is_value x.result && x.reader) (placed_decided s.book.next_c (is_value x.result) x.status q.0) q.1
+ready_reads w (Decide u) s t ok n h = λ x e p i. let q = and_parts (is_ordered x.status) (is_value x.result && x.reader) (p i) in and_from (is_ordered (book.decided_status s.book.next_c (is_value x.result) x.status)) (is_value x.result && x.reader) (ordered_decided s.book.next_c (is_value x.result) x.status q.0) q.1
 ready_reads w e s t ok n h = tt
 
 stays : {C : Type 0} (w : Fixed C) (e : Event) (s : Machine C) → IsAllowed w e s → AllControls (NoneActed s) s → (y : Who) → ReaderIn s.book.acts y → ReaderIn (after w e s).book.acts y
 stays w e s ok n (OfBatch k) h = h
-stays w e s ok n (OfAct t) h = each_to_holds reads_with_value t (after w e s).book.acts (in_book w e s t (holds_some reads_with_value (act_of t s.book.acts) h)) (acts.acts_keep w e s (λ u x. u ≡ t → reads_with_value x ≡ true) (holds_reads t) (ready_reads w e s t ok n h) (holds_to_each reads_with_value t s.book.acts h))
+stays w e s ok n (OfAct t) h = each_to_holds reads_with_value t (after w e s).book.acts (in_book w e s t (found_some reads_with_value (act_of t s.book.acts) h)) (acts.acts_keep w e s (λ u x. u ≡ t → reads_with_value x ≡ true) (holds_reads t) (ready_reads w e s t ok n h) (holds_to_each reads_with_value t s.book.acts h))
 
 changed_found : (t : ℕ) (f : Act → Act) (x : Act) (xs : List Act) → ((y : Act) → (f y).tid ≡ y.tid) → act_of t xs ≡ Some x → act_of t (book.changed_act t f xs) ≡ Some (f x)
 changed_found t f x [] i e = absurd (cc e)

@@ -6,7 +6,7 @@ use Rattle.std.proofs.lemmas.Bool.{eqb-true, or_cases, or_left, or_right, or_par
 use Rattle.protocol.specs.Parts.{Act, Batch, Cascade, Who, OfBatch, OfAct, Entry, BatchEntry, ActEntry}
 use Rattle.protocol.specs.Words.{is_among, is_aborted, is_who}
 use Rattle.protocol.specs.OnCell.{is_cut}
-use Rattle.protocol.specs.History.{Slice, Ran, Stands, Gone, ran_in, completed, left_for_good, without_standing, long_staying, batches_in, batch_in}
+use Rattle.protocol.specs.History.{Slice, Ran, Stands, Gone, ran_in, completed, left_for_good, without_standing, long_staying, batches_in}
 use Rattle.protocol_laws.specs.Tracks.{keys_in, is_key_among}
 use Rattle.protocol_laws.specs.Turns.{Turns}
 use Rattle.protocol_laws.specs.Commits.{is_kept, KeptFront, has_kept}
@@ -14,22 +14,14 @@ use Rattle.protocol_laws.specs.FromDesk.{is_declared, EntryOf}
 use Rattle.protocol_laws.specs.Highs.{doomed_at, AllDoomed, TakenAlong, is_above_or_aborted, StandsBelow}
 use Rattle.protocol_laws.proofs.machine.PlaceLists
 use Rattle.protocol_laws.proofs.first.SettlingKeys as keys
-use Rattle.protocol_laws.proofs.first.Lists.{all_back, all_front, all_join, weaker}
+use Rattle.protocol_laws.proofs.first.Lists.{all_join, weaker}
+pub use Rattle.protocol_laws.proofs.machine.PlaceLists.{stay_all}
 
 abbrev pub IsClearOf : List Cascade → ℕ → List Ran → Type 0
 IsClearOf cs n rs = AllByRecursion (λ k. is_above_or_aborted cs n k ≡ true) (batches_in rs)
 
 clear_more : (cs : List Cascade) (n : ℕ) (rs xs : List Ran) → IsClearOf cs n rs → IsClearOf cs n xs → IsClearOf cs n (rs ++ xs)
 clear_more cs n rs xs h k = subst (λ z. AllByRecursion (λ k. is_above_or_aborted cs n k ≡ true) z) (sym (PlaceLists.batches_join rs xs)) (all_join (λ k. is_above_or_aborted cs n k ≡ true) (batches_in rs) (batches_in xs) h k)
-
-pub stay_all : (P : ℕ → Type 0) (cs : List Cascade) (rs : List Ran) → AllByRecursion P (batches_in rs) → AllByRecursion P (batches_in (long_staying cs rs))
-stay_all P cs [] h = tt
-stay_all P cs (Stands y c ss ∷ rs) h = by (is_cut cs y) (stay_all P cs rs (all_back P (batch_in y) (batches_in rs) h))
-  where
-    by : (b : Bool) → AllByRecursion P (batches_in (long_staying cs rs)) → AllByRecursion P (batches_in (if b then [] else Stands y c ss ∷ long_staying cs rs))
-    by true g = tt
-    by false g = all_join P (batch_in y) (batches_in (long_staying cs rs)) (all_front P (batch_in y) (batches_in rs) h) g
-stay_all P cs (Gone y ss ∷ rs) h = all_join P (batch_in y) (batches_in (long_staying cs rs)) (all_front P (batch_in y) (batches_in rs) h) (stay_all P cs rs (all_back P (batch_in y) (batches_in rs) h))
 
 -- more at the end
 pub below_more : (cs : List Cascade) (n u : ℕ) (rs xs : List Ran) → IsClearOf cs n xs → StandsBelow cs n u rs → StandsBelow cs n u (rs ++ xs)

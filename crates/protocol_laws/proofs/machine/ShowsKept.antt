@@ -93,7 +93,7 @@ pub kept_join : (y : Who) (kept more : List Who) → is_kept y kept ≡ true →
 kept_join y [] more h = absurd (true≢false (sym h))
 kept_join y (x ∷ xs) more h = elim (or_cases (is_who x y) (is_kept y xs) h) [ inl e ↦ or_left (is_who x y) _ e | inr e ↦ or_right (is_who x y) _ (kept_join y xs more e) ]
 
-kept_last : (k : ℕ) (kept : List Who) → is_kept (OfBatch k) (kept ++ OfBatch k ∷ []) ≡ true
+pub kept_last : (k : ℕ) (kept : List Who) → is_kept (OfBatch k) (kept ++ OfBatch k ∷ []) ≡ true
 kept_last k [] = or_left (k == k) _ (Rattle.std.proofs.lemmas.Bool.eq-eqb k k refl)
 kept_last k (x ∷ xs) = or_right (is_who x (OfBatch k)) _ (kept_last k xs)
 

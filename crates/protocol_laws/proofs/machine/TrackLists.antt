@@ -202,7 +202,7 @@ differ_staying cs (k ∷ ks) h = by (is_cut cs k.who) (fewer_staying cs k.who ks
     by true e g = tt
     by false e g = (e, g)
 
-among_completed : (k : ℕ) (who : Who) (ks : List Key) → is_key_among who (map (key_completed k) ks) ≡ is_key_among who ks
+pub among_completed : (k : ℕ) (who : Who) (ks : List Key) → is_key_among who (map (key_completed k) ks) ≡ is_key_among who ks
 among_completed k who [] = refl
 among_completed k who (x ∷ xs) = ap (λ z. is_who x.who who || z) (among_completed k who xs)
 

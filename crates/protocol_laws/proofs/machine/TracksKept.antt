@@ -19,6 +19,7 @@ use Rattle.protocol.specs.OnCell.{is_entry_among, state_from}
 use Rattle.protocol.specs.History.{History, Ran, grown, with_at, not_run, ran_on, left_for_good, without_standing, long_staying, asks, Slice, is_reader_act, is_traceless}
 use Rattle.protocol_laws.specs.Tracks.{Key, key_of, is_key_among, Tracks, CutIsEnd, Bare}
 use Rattle.protocol_laws.proofs.machine.TrackLists
+pub use Rattle.protocol_laws.proofs.first.CellEpochs.{held}
 
 -- ---- one cell and what is carried of its actor
 
@@ -43,11 +44,6 @@ pub in_range : {X : Type 0} (p : X → Bool) (xs : List X) (a : ℕ) → holds p
 in_range p [] a h = absurd (true≢false (sym h))
 in_range p (x ∷ xs) zero h = omega arith
 in_range p (x ∷ xs) (suc a) h = omega (arith, in_range p xs a h)
-
-pub held : {X : Type 0} (p : X → Bool) (xs : List X) (i : ℕ) (d : X) → holds p (slice_get xs i) ≡ true → p (slice_index_or xs i d) ≡ true
-held p [] i d h = absurd (true≢false (sym h))
-held p (x ∷ xs) zero d h = h
-held p (x ∷ xs) (suc i) d h = held p xs i d h
 
 -- ---- what is tracked
 

@@ -67,7 +67,7 @@ step {C} w Of finish r t a c s f e = record { of_it = next (w.code.slice c s).ne
 
 -- ---- the beginning
 
-tx_is : {C : Type 0} (w : Fixed C) → IsText w.text → 1 ≤ length w.text.opening.states → (n : ℕ) → IsTxOf (length w.text.opening.states) (tx_at w.text n)
+pub tx_is : {C : Type 0} (w : Fixed C) → IsText w.text → 1 ≤ length w.text.opening.states → (n : ℕ) → IsTxOf (length w.text.opening.states) (tx_at w.text n)
 tx_is w text l n = all_get (IsTxOf (length w.text.opening.states)) w.text.txs n no_tx (record { root_exists = omega (arith, l); declared_exist = tt; declares_root = λ q. absurd (true≢false (sym q)) }) text.txs
 
 begins : {C : Type 0} (w : Fixed C) (Of : Tx → C → Type 0) (finish : C → List State → Alone) (r : Trail) (t n : ℕ) → Facts (length w.text.opening.states) w.code (IsTxIn w.text) Of finish → IsTxOf (length w.text.opening.states) (tx_at w.text n) → IsThere w.text n → r ≡ record { tx = n; steps = [] }

@@ -3,6 +3,7 @@ use Rattle.std.specs.Prelude.{◌≡◌, refl, ℕ, ◌<◌, ◌≤◌, ◌==◌
 use Rattle.std.specs.List.{AllByRecursion, list_any, list_all}
 use Rattle.std.proofs.Common.{arith, sym, ap, subst, inl, inr, ◌∙◌}
 use Rattle.std.proofs.lemmas.Bool.{eqb-true, leb-true, and_parts, or_cases, or_parts, true≢false, cases_lt, false_from_ne_true}
+use Rattle.snap_base.proofs.Lists.{all_push}
 use Rattle.protocol.specs.Parts.{Cascade, Who, OfBatch, Slot, Entry, BatchEntry, ActEntry}
 use Rattle.protocol.specs.Words.{who_of, who_on, is_who, is_entry_of, is_turn_of, is_batch_entry, is_all_done, is_reader_entry}
 use Rattle.protocol.specs.Contents.{complete_mark}
@@ -14,10 +15,6 @@ use Rattle.protocol_laws.specs.Turns.{Rising, TurnOf, Turns, NotDone}
 use Rattle.protocol_laws.proofs.machine.TrackLists
 use Rattle.protocol_laws.proofs.machine.TrackLists.{is_who_true, is_who_refl}
 use Rattle.protocol_laws.proofs.first.Lists.{all_map, weaker}
-
-all_end : {X : Type 0} (P : X → Type 0) (xs : List X) (y : X) → AllByRecursion P xs → P y → AllByRecursion P (xs ++ y ∷ [])
-all_end P [] y h k = (k, tt)
-all_end P (x ∷ xs) y h k = (h.0, all_end P xs y h.1 k)
 
 -- ---- nothing ran yet
 
@@ -165,8 +162,8 @@ turns_past t (s ∷ ss) h =
 
 turn_runs : (t : ℕ) (e : Entry) (ss : List Slice) (x : Slice) → is_reader_entry e ≡ false → x.tid ≡ t → is_entry_of t e ≡ true → is_turn_of t e ≡ true → NotDone t e → TurnOf e ss → TurnOf e (ss ++ x ∷ [])
 turn_runs t (BatchEntry b) ss x r i o c n h =
-    (rising_end 0 ss x (omega arith) (weaker _ _ ss (λ z p. omega (arith, i, not_past t z.tid b.slots o n p.1)) h.1) h.0, all_end _ ss x h.1 (rw i (o, turns_past t b.slots c)), h.2)
-turn_runs t (ActEntry y) ss x r i o c n h = (all_end _ ss x h.0 (i ∙ sym (eqb-true y.tid t o)), λ q. absurd (true≢false (sym q ∙ r)))
+    (rising_end 0 ss x (omega arith) (weaker _ _ ss (λ z p. omega (arith, i, not_past t z.tid b.slots o n p.1)) h.1) h.0, all_push _ ss x h.1 (rw i (o, turns_past t b.slots c)), h.2)
+turn_runs t (ActEntry y) ss x r i o c n h = (all_push _ ss x h.0 (i ∙ sym (eqb-true y.tid t o)), λ q. absurd (true≢false (sym q ∙ r)))
 
 among_turns : (who : Who) (rs : List Ran) (es : List Entry) → Turns rs es → is_key_among who (keys_in rs) ≡ is_key_among who (map key_of es)
 among_turns who [] [] h = refl

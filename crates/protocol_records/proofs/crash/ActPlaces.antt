@@ -3,7 +3,7 @@ use Rattle.std.specs.Prelude.{◌≡◌, refl, ℕ, max, ◌%◌, ◌==◌, not,
 use Rattle.std.specs.List.{AllByRecursion, list_any}
 use Rattle.std.proofs.Common.{sym, ap, subst, inl, inr, ◌∙◌}
 use Rattle.std.proofs.lemmas.List.{append-nil}
-use Rattle.std.proofs.lemmas.Bool.{true≢false, or_cases, or_left, or_right, and_parts, eqb-true, eq-eqb, cases_Bool, false_from_ne_true, or_from, or_parts}
+use Rattle.std.proofs.lemmas.Bool.{true≢false, or_cases, or_left, or_right, and_parts, eqb-true, eq-eqb, cases_Bool, false_from_ne_true, or_from, or_parts, and_from}
 use Rattle.protocol.specs.Fixed.{Fixed}
 use Rattle.protocol.specs.Records.{is_prepare}
 use Rattle.protocol.specs.Parts.{Act, Joined, Cascade, Who, OfBatch, OfAct, Machine}
@@ -32,9 +32,11 @@ use Rattle.protocol_laws.proofs.machine.QueuedKept.{in_book}
 use Rattle.protocol_records.proofs.crash.OnLong.{on_at, on_more, on_map, ran_same, completed_same, left_same, on_without}
 use Rattle.protocol_records.proofs.crash.TellLists.{on_less_without, on_less_staying}
 use Rattle.protocol_records.proofs.crash.Durable.{any_back, logged_added}
+use Rattle.protocol_records.proofs.crash.KeptSure.{there_is}
 use Rattle.protocol_laws.proofs.first.Lists.{all_join, all_map, any_front, some_held, some_of, weaker}
 use Rattle.protocol_laws.proofs.first.Statuses.{decided_doomed, sealed_doomed, value_some}
 use Rattle.protocol_laws.proofs.machine.MarksKept.{log_synced}
+use Rattle.protocol_theorems.proofs.quiet.QuietEasy.{passes}
 
 -- ---- a place that was joined stays
 
@@ -61,19 +63,12 @@ ready_place w (Seal u) s t a q = λ x e p f. p f
 ready_place w (Finish u b) s t a q = λ x e p f. any_actor a b book.has_left x.places (λ p. refl) ∙ p f
 ready_place w e s t a q = tt
 
-there_is : {X : Type 0} (o : Option X) → is_some o ≡ true → holds (λ x. true) o ≡ true
-there_is None q = absurd (true≢false (sym q))
-there_is (Some x) q = refl
-
-holds_from : {X : Type 0} (q : X → Bool) (o : Option X) (x : X) → o ≡ Some x → q x ≡ true → holds q o ≡ true
-holds_from q o x e h = subst (λ z. holds q z ≡ true) (sym e) h
-
 -- a fact of one ACT that is there
 pub fact_stays : {C : Type 0} (w : Fixed C) (e : Event) (s : Machine C) (t : ℕ) (q : Act → Bool) → HoldsAnyway (λ u x. u ≡ t → q x ≡ true) → acts.ReadyAll w e s (λ u x. u ≡ t → q x ≡ true) → holds q (act_of t s.book.acts) ≡ true → holds q (act_of t (after w e s).book.acts) ≡ true
 fact_stays w e s t q k r h =
     let each : EachAct (λ u x. u ≡ t → q x ≡ true) (after w e s).book.acts = acts.acts_change w e s (λ u x. u ≡ t → q x ≡ true) k r (λ u x f i. some_of q (act_of t s.book.acts) x (ap (λ z. act_of z s.book.acts) (sym i) ∙ f) h) in
     let y = one_is (λ x. true) (act_of t (after w e s).book.acts) (there_is (act_of t (after w e s).book.acts) (in_book w e s t (some_held q (act_of t s.book.acts) h))) in
-    holds_from q (act_of t (after w e s).book.acts) y.0 y.1 (each t y.0 y.1 refl)
+    passes q (act_of t (after w e s).book.acts) y.0 y.1 (each t y.0 y.1 refl)
 
 pub place_stays : {C : Type 0} (w : Fixed C) (e : Event) (s : Machine C) (t a : ℕ) → holds (has_joined a) (act_of t s.book.acts) ≡ true → holds (has_joined a) (act_of t (after w e s).book.acts) ≡ true
 place_stays w e s t a h = fact_stays w e s t (has_joined a) (holds_place t a) (ready_place w e s t a (some_held (has_joined a) (act_of t s.book.acts) h)) h
@@ -92,7 +87,7 @@ unfolding after
 asked_place w t a s q n =
     let each : EachAct (λ u x. u ≡ t → has_joined a x ≡ true) (book.asked_acts (book.in_the_way (lock_of t s.book.acts) (cell_at s a).entries) (book.met (lock_of t s.book.acts) (cell_at s a).entries) t a (max (cell_at s a).last (floor_at t s.book.acts (cell_at s a))) s.book) = subst (λ o. EachAct (λ u x. u ≡ t → has_joined a x ≡ true) (book.asked_acts o (book.met (lock_of t s.book.acts) (cell_at s a).entries) t a (max (cell_at s a).last (floor_at t s.book.acts (cell_at s a))) s.book)) (sym n) start in
     let y = one_is (λ x. true) (act_of t (after w (Ask t a) s).book.acts) (there_is (act_of t (after w (Ask t a) s).book.acts) (in_book w (Ask t a) s t q)) in
-    holds_from (has_joined a) (act_of t (after w (Ask t a) s).book.acts) y.0 y.1 (each t y.0 y.1 refl)
+    passes (has_joined a) (act_of t (after w (Ask t a) s).book.acts) y.0 y.1 (each t y.0 y.1 refl)
   where
     -- it has the place, or is another one
     start : EachAct (λ u x. u ≡ t → has_joined a x ≡ true) (book.asked_acts None (book.met (lock_of t s.book.acts) (cell_at s a).entries) t a (max (cell_at s a).last (floor_at t s.book.acts (cell_at s a))) s.book)
@@ -136,20 +131,16 @@ on_joined w e s h ok g = λ t a o. place_stays w e s t a (g t a o)
 holds_value : (t a : ℕ) → HoldsAnyway (λ u x. u ≡ t → (is_value x.result && has_joined a x) ≡ true)
 holds_value t a = record { numbered = λ u x n p. p; doomed = λ u x v l p. p; rises = λ u k x l p. p }
 
-pub both : (x y : Bool) → x ≡ true → y ≡ true → (x && y) ≡ true
-both true y e f = f
-both false y e f = absurd (true≢false (sym e))
-
 ready_value : {C : Type 0} (w : Fixed C) (e : Event) (s : Machine C) (t a : ℕ) → IsAllowed w e s → AllControls (NoneActed s) s → holds (λ x. is_value x.result && has_joined a x) (act_of t s.book.acts) ≡ true → acts.ReadyAll w e s (λ u x. u ≡ t → (is_value x.result && has_joined a x) ≡ true)
 unfolding acts.ReadyAll conditions
 ready_value w (Admit u) s t a ok n q = λ e f. absurd (true≢false (sym (some_held (λ x. is_value x.result && has_joined a x) (act_of t s.book.acts) q) ∙ ap is_some (ap (λ z. act_of z s.book.acts) (sym f) ∙ e)))
-ready_value w (Ask u b) s t a ok n q = λ o x e p f. let v = and_parts (is_value x.result) (has_joined a x) (p f) in both (is_value x.result) _ v.0 (any_front (λ p. p.actor == a) x.places _ v.1)
+ready_value w (Ask u b) s t a ok n q = λ o x e p f. let v = and_parts (is_value x.result) (has_joined a x) (p f) in and_from (is_value x.result) _ v.0 (any_front (λ p. p.actor == a) x.places _ v.1)
 ready_value w (End u b) s t a ok n q = λ x r e p f. absurd (true≢false (sym (value_some x.result (and_parts (is_value x.result) (has_joined a x) (p f)).0) ∙ ap is_some (results.outcome_none (λ x. is_ended x.next) u b s (held (λ c. holds (λ x. is_ended x.next) (outcome_of u c.outbox)) s.cells b no_cell ok.0) n u x e refl)))
 ready_value w (Decide u) s t a ok n q = λ x e p f. p f
-ready_value w (Prepare u b) s t a ok n q = λ x e p f. let v = and_parts (is_value x.result) (has_joined a x) (p f) in both (is_value x.result) _ v.0 (any_actor a b book.is_prepared x.places (λ p. refl) ∙ v.1)
-ready_value w (Vouch u b) s t a ok n q = λ x e p f. let v = and_parts (is_value x.result) (has_joined a x) (p f) in both (is_value x.result) _ v.0 (any_actor a b book.is_vouched x.places (λ p. refl) ∙ v.1)
+ready_value w (Prepare u b) s t a ok n q = λ x e p f. let v = and_parts (is_value x.result) (has_joined a x) (p f) in and_from (is_value x.result) _ v.0 (any_actor a b book.is_prepared x.places (λ p. refl) ∙ v.1)
+ready_value w (Vouch u b) s t a ok n q = λ x e p f. let v = and_parts (is_value x.result) (has_joined a x) (p f) in and_from (is_value x.result) _ v.0 (any_actor a b book.is_vouched x.places (λ p. refl) ∙ v.1)
 ready_value w (Seal u) s t a ok n q = λ x e p f. p f
-ready_value w (Finish u b) s t a ok n q = λ x e p f. let v = and_parts (is_value x.result) (has_joined a x) (p f) in both (is_value x.result) _ v.0 (any_actor a b book.has_left x.places (λ p. refl) ∙ v.1)
+ready_value w (Finish u b) s t a ok n q = λ x e p f. let v = and_parts (is_value x.result) (has_joined a x) (p f) in and_from (is_value x.result) _ v.0 (any_actor a b book.has_left x.places (λ p. refl) ∙ v.1)
 ready_value w e s t a ok n q = tt
 
 value_stays : {C : Type 0} (w : Fixed C) (e : Event) (s : Machine C) (t a : ℕ) → IsAllowed w e s → AllControls (NoneActed s) s → holds (λ x. is_value x.result && has_joined a x) (act_of t s.book.acts) ≡ true → holds (λ x. is_value x.result && has_joined a x) (act_of t (after w e s).book.acts) ≡ true
@@ -189,8 +180,8 @@ prepared_kept w (Prepare u b) s ok n g = λ t a q. value_stays w (Prepare u b) s
     own : holds (λ x. is_value x.result && has_joined b x) (act_of u s.book.acts) ≡ true
     own =
         let x = one_is (λ x. is_value x.result && not (is_doomed x.status)) (act_of u s.book.acts) ok.0 in
-        holds_from (λ x. is_value x.result && has_joined b x) (act_of u s.book.acts) x.0 x.1
-        (both (is_value x.0.result) (has_joined b x.0) (and_parts (is_value x.0.result) (not (is_doomed x.0.status)) x.2).0
+        passes (λ x. is_value x.result && has_joined b x) (act_of u s.book.acts) x.0 x.1
+        (and_from (is_value x.0.result) (has_joined b x.0) (and_parts (is_value x.0.result) (not (is_doomed x.0.status)) x.2).0
         (found_place b x.0.places (λ p. not p.prepared) (some_of (λ x. holds (λ p. not p.prepared) (joined_of b x)) (act_of u s.book.acts) x.0 x.1 ok.1.0)))
 prepared_kept w e s ok n g = λ t a q. value_stays w e s t a ok n (g t a q)
 

@@ -13,7 +13,6 @@ use Rattle.protocol_records.specs.Logged.{is_on, KeptSure}
 use Rattle.protocol_records.specs.Telling.{One, FrontIn, names, end_state, TellsState, AllTells, last_one, is_uncommitted_writer, NoneLater}
 use Rattle.protocol_laws.proofs.machine.TrackLists
 use Rattle.protocol_theorems.proofs.sets.RowsAgree.{filter_same}
-use Rattle.protocol_records.proofs.crash.ActPlaces.{both}
 use Rattle.protocol_records.proofs.crash.Durable.{any_back}
 use Rattle.protocol_records.proofs.crash.RecoverLists.{Commits1, kept_end, same_test, none_behind, tells_it, filter_none}
 use Rattle.protocol_records.proofs.crash.TellLists.{Unmarked}
@@ -145,7 +144,7 @@ aside_commits a rd open_there first kept readers committed ds y long os P c op k
         both_land rd open_there first y kept readers (λ o. P o.who && is_kept o.who (kept ++ y ∷ [])) (λ o. P o.who && (is_kept o.who (kept ++ y ∷ []) || is_kept o.who readers)) long os first first c.other c.fresh c.front oy (op oy)
         (weaker (λ o. is_kept o.who (kept ++ y ∷ []) ≡ true → is_on o.who long ≡ true) (λ o. (P o.who && is_kept o.who (kept ++ y ∷ [])) ≡ true → (is_kept o.who kept ≡ true) × (is_on o.who long ≡ true) ⊎ (is_who y o.who ≡ true)) os
         (λ o k v. let u = and_parts (P o.who) (is_kept o.who (kept ++ y ∷ [])) v in elim (kept_end y o.who kept u.1) [ inl i ↦ inl (i, k u.1) | inr i ↦ inr i ]) c.recorded)
-        (λ o e. let j = TrackLists.is_who_true y o.who e in both (P o.who) (is_kept o.who (kept ++ y ∷ [])) (subst (λ z. P z ≡ true) j py) (subst (λ z. is_kept z (kept ++ y ∷ []) ≡ true) j self_kept))
+        (λ o e. let j = TrackLists.is_who_true y o.who e in and_from (P o.who) (is_kept o.who (kept ++ y ∷ [])) (subst (λ z. P z ≡ true) j py) (subst (λ z. is_kept z (kept ++ y ∷ []) ≡ true) j self_kept))
         (λ o e. more (P o.who) (is_kept o.who (kept ++ y ∷ [])) (is_kept o.who readers) e) (λ o e. split (P o.who) (is_kept o.who (kept ++ y ∷ [])) (is_kept o.who readers) e) (c.has_record oy) c.tells k
 
     with_readers : (u v v' w : Bool) → (u && v) ≡ (u && v') → (u && (v || w)) ≡ (u && (v' || w))

@@ -20,6 +20,7 @@ use Rattle.protocol_records.proofs.crash.Durable.{durable_stays, durable_is, all
 use Rattle.protocol_laws.proofs.first.Lists.{all_map, some_of, weaker}
 use Rattle.protocol_laws.proofs.first.Statuses.{if_bid}
 use Rattle.protocol_laws.proofs.machine.MarksKept.{log_synced}
+use Rattle.protocol_laws.proofs.first.EpochsKept.{actors_of_new}
 
 -- ---- any fact
 
@@ -198,10 +199,6 @@ none_there : (k : ℕ) (n : Batch) (bs : List Batch) → n.bid ≡ k → AllByRe
 none_there k n [] e h = rw (Rattle.std.proofs.lemmas.Bool.eq-eqb n.bid k e) refl
 none_there k n (x ∷ bs) e h = let q : (x.bid == k) ≡ false = Rattle.std.proofs.lemmas.Bool.ne_eqb x.bid k (λ i. omega (arith, i, h.0)) in rw q (none_there k n bs e h.1)
 
-new_actors : (xs : List ℕ) → map (λ p. p.actor) (map desk.new_declared xs) ≡ xs
-new_actors [] = refl
-new_actors (x ∷ xs) = ap (λ l. x ∷ l) (new_actors xs)
-
 pub infos_kept : {C : Type 0} (w : Fixed C) (e : Event) (s : Machine C) → IsAllowed w e s → epochs.Agreeing s → Infos s → Infos (after w e s)
 unfolding Infos conditions after
 infos_kept w (Form k) s ok ag g = λ l. all_added _ _ s.logs (k % w.text.logs) l (own, tt) (infos_stay w (Form k) s _ (g l))
@@ -210,7 +207,7 @@ infos_kept w (Form k) s ok ag g = λ l. all_added _ _ s.logs (k % w.text.logs) l
     new = desk.new_batch k (ring.next_actors w.text s.ring) (ring.next_pacts w.text s.ring)
 
     own : actors_of_batch (batch_of k (s.desk.batches ++ desk.new_batch k (ring.next_actors w.text s.ring) (ring.next_pacts w.text s.ring) ∷ [])) ≡ Some (ring.next_actors w.text s.ring)
-    own = ap actors_of_batch (none_there k new s.desk.batches refl (subst (λ z. AllByRecursion (λ j. j < z) (map (λ b. b.bid) s.desk.batches)) (sym (eqb-true k s.ring.next_bid ok.0)) (epochs.bids_below s ag))) ∙ ap Some (new_actors (ring.next_actors w.text s.ring))
+    own = ap actors_of_batch (none_there k new s.desk.batches refl (subst (λ z. AllByRecursion (λ j. j < z) (map (λ b. b.bid) s.desk.batches)) (sym (eqb-true k s.ring.next_bid ok.0)) (epochs.bids_below s ag))) ∙ ap Some (actors_of_new (ring.next_actors w.text s.ring))
 infos_kept w (Complete k a) s ok ag g = λ l. all_added _ _ s.logs (a % w.text.logs) l (tt, tt) (infos_stay w (Complete k a) s _ (g l))
 infos_kept w (Commit k) s ok ag g = λ l. all_added _ _ s.logs (k % w.text.logs) l (tt, tt) (infos_stay w (Commit k) s _ (g l))
 infos_kept w (Prepare t a) s ok ag g = λ l. all_added _ _ s.logs (a % w.text.logs) l (tt, tt) (infos_stay w (Prepare t a) s _ (g l))
@@ -250,5 +247,3 @@ filled_kept w (Note k a) s t ok g = batches_keep w (Note k a) s _ holds_filled (
 filled_kept w (Commit k) s t ok g = batches_keep w (Commit k) s _ holds_filled (λ b e p. p) g
 filled_kept w (Settle k) s t ok g = batches_keep w (Settle k) s _ holds_filled (λ b e p. p) g
 filled_kept w e s t ok g = batches_keep w e s _ holds_filled tt g
-
--- ---- of each batch that is found, so of each

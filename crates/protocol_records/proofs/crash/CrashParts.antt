@@ -6,6 +6,7 @@ use Rattle.std.proofs.lemmas.List.{append-nil}
 use Rattle.std.proofs.lemmas.Bool.{true≢false, or_cases, or_left, or_right, and_parts}
 use Rattle.snap_base.specs.declared.transactions.Tx.{Tx}
 use Rattle.snap_base.specs.declared.transactions.State.{State}
+use Rattle.snap_base.proofs.Booleans.{and_false}
 use Rattle.protocol.specs.Facts.{Alone, state_in}
 use Rattle.protocol.specs.Fixed.{Fixed, no_state}
 use Rattle.protocol.specs.Records.{LogRecord, BatchInfo, BatchComplete, BatchDone, ActPrepare, ActDone, is_commit, is_prepare, is_act_commit}
@@ -230,15 +231,11 @@ none_counted : (p : One → Bool) (os : List One) → ((o : One) → p o ≡ fal
 none_counted p [] k = refl
 none_counted p (o ∷ os) k = rw (k o, none_counted p os k) refl
 
-in_nobody : (b : Bool) → (b && false) ≡ false
-in_nobody true = refl
-in_nobody false = refl
-
 recovering_opened : {C : Type 0} (w : Fixed C) (Of : Tx → C → Type 0) (finish : C → List State → Alone) → Given w Of finish → Recovering w Of finish (opening w) no_history
 unfolding Recovers ToldReads AllNoneLater AllAside
 recovering_opened w Of finish v = record {
   followed = followed_opened w Of finish v;
-  recovers = λ a P f. ap (last_one (slice_index_or w.text.opening.states a no_state)) (none_counted (λ o. P o.who && false) (told_states a (slice_index_or (replicate w.text.logs no_log) (a % w.text.logs) no_log).records) (λ o. in_nobody (P o.who)));
+  recovers = λ a P f. ap (last_one (slice_index_or w.text.opening.states a no_state)) (none_counted (λ o. P o.who && false) (told_states a (slice_index_or (replicate w.text.logs no_log) (a % w.text.logs) no_log).records) (λ o. and_false (P o.who)));
   reads = λ a. subst (λ rs. AllByRecursion (ToldRead []) (told_states a rs)) (sym (no_records w.text.logs (a % w.text.logs))) tt;
   none_later = λ a. subst (λ rs. NoneLater (is_uncommitted_writer (Rattle.protocol_laws.specs.Commits.reads_who []) [] []) [] (told_states a rs)) (sym (no_records w.text.logs (a % w.text.logs))) tt;
   aside = λ a P up. refl;

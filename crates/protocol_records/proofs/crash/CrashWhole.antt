@@ -1,10 +1,11 @@
 -- A commit record that is in a cut rests on records that are in it.
-use Rattle.std.specs.Prelude.{◌≡◌, refl, ℕ, ℤ, ◌%◌, ◌==◌, nat_le, Bool, true, false, ◌||◌, if◌then◌else◌, Some, List, [], ◌∷◌, ◌++◌, map}
+use Rattle.std.specs.Prelude.{◌≡◌, refl, ℕ, ℤ, ◌%◌, ◌==◌, nat_le, Bool, true, false, ◌||◌, if◌then◌else◌, List, [], ◌∷◌, ◌++◌, map}
 use Rattle.std.specs.List.{AllByRecursion, list_any, list_all}
 use Rattle.std.proofs.Common.{sym, ap, subst, ◌∙◌}
 use Rattle.std.proofs.lemmas.Bool.{true≢false, and_parts, eqb-true, not-true}
 use Rattle.snap_base.specs.declared.transactions.Tx.{Tx}
 use Rattle.snap_base.specs.declared.transactions.State.{State}
+use Rattle.snap_base.proofs.Options.{same_some}
 use Rattle.protocol.specs.Facts.{Alone}
 use Rattle.protocol.specs.Fixed.{Fixed}
 use Rattle.protocol.specs.Records.{LogRecord, BatchInfo, BatchComplete, BatchDone, ActPrepare, ActDone, is_info, is_complete, is_prepare, is_act_commit}
@@ -65,9 +66,6 @@ commit_at t (BatchComplete j a st ∷ rs) h = let g = commit_at t rs h in record
 commit_at t (BatchDone j vs ∷ rs) h = let g = commit_at t rs h in record { m = g.m; c = g.c; v = g.v; actors = g.actors; front = BatchDone j vs ∷ g.front; rest = g.rest; splits = ap (λ l. BatchDone j vs ∷ l) g.splits }
 commit_at t (ActPrepare u a st ∷ rs) h = let g = commit_at t rs h in record { m = g.m; c = g.c; v = g.v; actors = g.actors; front = ActPrepare u a st ∷ g.front; rest = g.rest; splits = ap (λ l. ActPrepare u a st ∷ l) g.splits }
 
-pub some_is : {X : Type 0} (x y : X) → Some x ≡ Some y → x ≡ y
-some_is x y e = cc e
-
 pub noted_in : {C : Type 0} (w : Fixed C) (s : Machine C) (kept : ℕ → ℕ) (k : ℕ) (ps : List Declared) → IsCut s kept → list_all (λ p. p.noted) ps ≡ true → AllByRecursion (λ p. p.noted ≡ true → durable_at (is_complete k p.actor) s.logs (p.actor % w.text.logs) ≡ true) ps → AllByRecursion (λ a. list_any (is_complete k a) (left_in s kept (a % w.text.logs)) ≡ true) (map (λ p. p.actor) ps)
 noted_in w s kept k [] c n h = tt
 noted_in w s kept k (p ∷ ps) c n h = let v = and_parts p.noted (list_all (λ p. p.noted) ps) n in (durable_in s kept (is_complete k p.actor) (p.actor % w.text.logs) c (h.0 v.0), noted_in w s kept k ps c v.1 h.1)
@@ -82,14 +80,14 @@ whole_batch w Of finish s h kept k c g l e =
     let p = l.batches k b.0 b.1 in
     let i = info_at k (left_in s kept (k % w.text.logs)) (durable_in s kept (is_info k) (k % w.text.logs) c (p.info formed)) in
     let t = all_mid (InfoIs s.desk.batches) (BatchInfo k i.actors i.tids) i.front i.rest (subst (AllByRecursion (InfoIs s.desk.batches)) i.splits (all_take (InfoIs s.desk.batches) (kept (k % w.text.logs)) (log_at s (k % w.text.logs)).records (l.infos (k % w.text.logs)))) in
-    let same : map (λ p. p.actor) b.0.places ≡ i.actors = some_is (map (λ p. p.actor) b.0.places) i.actors (sym (ap actors_of_batch b.1) ∙ t) in
+    let same : map (λ p. p.actor) b.0.places ≡ i.actors = same_some (map (λ p. p.actor) b.0.places) i.actors (sym (ap actors_of_batch b.1) ∙ t) in
     record { actors = i.actors; tids = i.tids; front = i.front; rest = i.rest; info = i.splits; completes = subst (AllByRecursion (λ a. list_any (is_complete k a) (left_in s kept (a % w.text.logs)) ≡ true)) same (noted_in w s kept k b.0.places c (m.all_noted formed) p.noted) }
 
 pub vouched_in : {C : Type 0} (w : Fixed C) (s : Machine C) (kept : ℕ → ℕ) (t : ℕ) (ps : List Joined) → IsCut s kept → list_all (λ p. p.vouched) ps ≡ true → AllByRecursion (λ p. p.vouched ≡ true → durable_at (is_prepare t p.actor) s.logs (p.actor % w.text.logs) ≡ true) ps → AllByRecursion (λ a. list_any (is_prepare t a) (left_in s kept (a % w.text.logs)) ≡ true) (map (λ p. p.actor) ps)
 vouched_in w s kept t [] c n h = tt
 vouched_in w s kept t (p ∷ ps) c n h = let v = and_parts p.vouched (list_all (λ p. p.vouched) ps) n in (durable_in s kept (is_prepare t p.actor) (p.actor % w.text.logs) c (h.0 v.0), vouched_in w s kept t ps c v.1 h.1)
 
-all_put : (P : ℕ → Type 0) (n : ℕ) (ns : List ℕ) → P n → AllByRecursion P ns → AllByRecursion P (put_in n ns)
+pub all_put : (P : ℕ → Type 0) (n : ℕ) (ns : List ℕ) → P n → AllByRecursion P ns → AllByRecursion P (put_in n ns)
 all_put P n [] p h = (p, tt)
 all_put P n (x ∷ xs) p h = by (nat_le n x) (all_put P n xs p h.1)
   where
@@ -97,7 +95,7 @@ all_put P n (x ∷ xs) p h = by (nat_le n x) (all_put P n xs p h.1)
     by true r = (p, h)
     by false r = (h.0, r)
 
-all_ascending : (P : ℕ → Type 0) (ns : List ℕ) → AllByRecursion P ns → AllByRecursion P (ascending ns)
+pub all_ascending : (P : ℕ → Type 0) (ns : List ℕ) → AllByRecursion P ns → AllByRecursion P (ascending ns)
 all_ascending P [] h = tt
 all_ascending P (n ∷ ns) h = all_put P n (ascending ns) h.0 (all_ascending P ns h.1)
 

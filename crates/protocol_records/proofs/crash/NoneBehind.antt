@@ -1,10 +1,11 @@
 -- No record of a state of a member lies behind a cut.
 use Rattle.std.specs.Prelude.{◌≡◌, refl, ℕ, ◌%◌, ◌==◌, not, Bool, true, false, ◌&&◌, ◌||◌, Some, is_some, List, [], ◌∷◌, ◌++◌, map, drop, find}
-use Rattle.std.specs.List.{AllByRecursion, list_any}
+use Rattle.std.specs.List.{list_any}
 use Rattle.std.proofs.Common.{sym, ap, subst, inl, inr, ◌∙◌}
 use Rattle.std.proofs.lemmas.Bool.{true≢false, or_cases, or_left, or_right, and_parts, eqb-true, false_from_ne_true, not-true}
 use Rattle.snap_base.specs.declared.transactions.Tx.{Tx}
 use Rattle.snap_base.specs.declared.transactions.State.{State}
+use Rattle.snap_base.proofs.Options.{same_some}
 use Rattle.protocol.specs.Facts.{Alone}
 use Rattle.protocol.specs.Fixed.{Fixed}
 use Rattle.protocol.specs.Records.{LogRecord, is_complete, is_prepare}
@@ -28,6 +29,7 @@ use Rattle.protocol_laws.proofs.machine.Good.{Given}
 use Rattle.protocol_laws.proofs.machine.AllGood.{AllGood, along_good}
 use Rattle.protocol_laws.proofs.machine.ActsKept.{Acts}
 use Rattle.protocol_laws.proofs.machine.ActsOwed.{good_keys}
+use Rattle.protocol_theorems.proofs.sets.AfterSets.{among_all}
 use Rattle.protocol_records.proofs.crash.KeptSure.{declared_at, there_is}
 use Rattle.protocol_records.proofs.crash.BatchesSure.{actors_stay}
 use Rattle.protocol_records.proofs.crash.TellsKept.{told_join, told_all, batch_unmarked, differ_at}
@@ -36,7 +38,7 @@ use Rattle.protocol_records.proofs.crash.RecoversKept.{named_batch, named_act}
 use Rattle.protocol_records.proofs.crash.ToldOnce.{OnceTold, once_apart}
 use Rattle.protocol_records.proofs.crash.OnceKept.{Declares, Once, AllOnce, new_record, once_step, marked_step}
 use Rattle.protocol_records.proofs.crash.CrashParts.{Logs, NoneBehind, take_drop, in_kept}
-use Rattle.protocol_records.proofs.crash.CrashWhole.{noted_in, vouched_in, some_is}
+use Rattle.protocol_records.proofs.crash.CrashWhole.{noted_in, vouched_in}
 
 found_actor : (a : ℕ) (ps : List Declared) → is_some (find (λ p. p.actor == a) ps) ≡ true → is_among a (map (λ p. p.actor) ps) ≡ true
 found_actor a [] h = absurd (true≢false (sym h))
@@ -45,10 +47,6 @@ found_actor a (p ∷ ps) h = by (p.actor == a) h (found_actor a ps)
     by : (v : Bool) → is_some (Rattle.std.specs.Prelude.if◌then◌else◌ v (Some p) (find (λ p. p.actor == a) ps)) ≡ true → (is_some (find (λ p. p.actor == a) ps) ≡ true → is_among a (map (λ p. p.actor) ps) ≡ true) → (v || is_among a (map (λ p. p.actor) ps)) ≡ true
     by true h r = refl
     by false h r = r h
-
-all_among : (P : ℕ → Type 0) (a : ℕ) (xs : List ℕ) → is_among a xs ≡ true → AllByRecursion P xs → P a
-all_among P a [] e h = absurd (true≢false (sym e))
-all_among P a (x ∷ xs) e h = elim (or_cases (x == a) _ e) [ inl q ↦ subst P (eqb-true x a q) h.0 | inr q ↦ all_among P a xs q h.1 ]
 
 declares_step : {C : Type 0} (w : Fixed C) (Of : Tx → C → Type 0) (finish : C → List State → Alone) (e : Event) (s : Machine C) (h : History) → IsAllowed w e s → AllGood w Of finish s h → Declares w s → Declares w (after w e s)
 unfolding Declares conditions
@@ -94,8 +92,8 @@ none_behind w Of finish s h kept a c g l o = filter_none (λ o. is_in w.text.log
         let b = one_is (λ x. true) (batch_of k s.desk.batches) (there_is (batch_of k s.desk.batches) (g.good.known k kk)) in
         let m = g.good.marked k b.0 b.1 in
         let d = o.declares k a (all_there (is_complete k a) q) in
-        let same = some_is d.0 (map (λ p. p.actor) b.0.places) (sym d.1 ∙ ap actors_of_batch b.1) in
-        all_among (λ a. list_any (is_complete k a) (left_in s kept (a % w.text.logs)) ≡ true) a (map (λ p. p.actor) b.0.places) (subst (λ z. is_among a z ≡ true) same d.2) (noted_in w s kept k b.0.places c (m.all_noted (not-true (is_formed b.0.stage) (sym m.known ∙ kk))) (l.batches k b.0 b.1).noted)
+        let same = same_some d.0 (map (λ p. p.actor) b.0.places) (sym d.1 ∙ ap actors_of_batch b.1) in
+        among_all (λ a. list_any (is_complete k a) (left_in s kept (a % w.text.logs)) ≡ true) a (map (λ p. p.actor) b.0.places) (subst (λ z. is_among a z ≡ true) same d.2) (noted_in w s kept k b.0.places c (m.all_noted (not-true (is_formed b.0.stage) (sym m.known ∙ kk))) (l.batches k b.0 b.1).noted)
 
     place_among : (ps : List Joined) → list_any (λ p. p.actor == a) ps ≡ true → is_among a (map (λ p. p.actor) ps) ≡ true
     place_among [] e = e
@@ -107,7 +105,7 @@ none_behind w Of finish s h kept a c g l o = filter_none (λ o. is_in w.text.log
         let x = one_is (λ x. is_value x.result && has_joined a x) (act_of t s.book.acts) (l.prepared t a (all_there (is_prepare t a) q)) in
         let u = and_parts (is_value x.0.result) (has_joined a x.0) x.2 in
         let v = act_kept w Of finish s h t x.0 g x.1 kk in
-        all_among (λ a. list_any (is_prepare t a) (left_in s kept (a % w.text.logs)) ≡ true) a (map (λ p. p.actor) x.0.places) (place_among x.0.places u.1) (vouched_in w s kept t x.0.places c ((l.acts t x.0 x.1).everywhere v.0 v.1) (l.acts t x.0 x.1).vouched)
+        among_all (λ a. list_any (is_prepare t a) (left_in s kept (a % w.text.logs)) ≡ true) a (map (λ p. p.actor) x.0.places) (place_among x.0.places u.1) (vouched_in w s kept t x.0.places c ((l.acts t x.0 x.1).everywhere v.0 v.1) (l.acts t x.0 x.1).vouched)
 
 -- ---- over every run
 

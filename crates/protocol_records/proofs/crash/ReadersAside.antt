@@ -38,7 +38,6 @@ use Rattle.protocol_laws.proofs.machine.AllGood as all
 use Rattle.protocol_theorems.proofs.order.ChainsKept.{Owes}
 use Rattle.protocol_theorems.proofs.order.OwedHolds.{owed}
 use Rattle.protocol_theorems.proofs.order.LastLaw.{Whole}
-use Rattle.protocol_records.proofs.crash.ActPlaces.{both}
 use Rattle.protocol_records.proofs.crash.AsideLists as lists
 use Rattle.protocol_records.proofs.crash.DonesSure.{has_view}
 use Rattle.protocol_records.proofs.crash.Durable.{sure_stays}
@@ -53,6 +52,7 @@ use Rattle.protocol_records.proofs.crash.TellsKept.{told_same, told_added, told_
 use Rattle.protocol_laws.proofs.first.Lists.{all_join, filter_join, weaker, both_all}
 use Rattle.protocol_laws.proofs.first.Statuses.{live_not_doomed}
 use Rattle.protocol_laws.proofs.machine.MarksKept.{log_synced}
+use Rattle.protocol_laws.proofs.machine.ShowsKept.{kept_join}
 
 every : {X : Type 0} {P : X → Type 0} (xs : List X) → ((x : X) → P x) → AllByRecursion P xs
 every [] k = tt
@@ -238,21 +238,17 @@ none_step : (f : Who → Bool) (kept readers : List Who) (os os' : List One) →
 none_step f kept readers os os' (inl e) h = subst (NoneLater f readers) (sym e) h
 none_step f kept readers os os' (inr n) h = subst (NoneLater f readers) (sym n.1) (lists.none_more f readers os n.0 n.3 h)
 
--- kept grows
-still_kept : (y : Who) (kept more : List Who) → is_kept y kept ≡ true → is_kept y (kept ++ more) ≡ true
-still_kept y kept more q = Rattle.protocol_laws.proofs.first.Lists.any_front (λ z. is_who z y) kept more q
-
 pub none_later_kept : {C : Type 0} (w : Fixed C) (Of : Tx → C → Type 0) (finish : C → List State → Alone) (e : Event) (s : Machine C) (h : History) → Given w Of finish → IsAllowed w e s → AllGood w Of finish s h → Whole w Of finish s h → ActsSure w s → ActsStand s h → Prepared w s → Telling w s h → AllNoneLater w s h → AllNoneLater w (after w e s) (grown w e s h)
 unfolding AllNoneLater grown after
 none_later_kept w Of finish (Commit k) s h v ok g wh su st pr te q = λ a.
     none_step (is_uncommitted_writer (reads_who (after w (Commit k) s).book.acts) (h.kept ++ OfBatch k ∷ []) (h.long a)) h.kept h.kept_readers (told_states a (log_at s (a % w.text.logs)).records) (told_states a (log_at (after w (Commit k) s) (a % w.text.logs)).records) (told_step w Of finish (Commit k) s h a ok g su st)
     (lists.none_weaker (is_uncommitted_writer (reads_who s.book.acts) h.kept (h.long a)) (is_uncommitted_writer (reads_who (after w (Commit k) s).book.acts) (h.kept ++ OfBatch k ∷ []) (h.long a)) h.kept_readers (told_states a (log_at s (a % w.text.logs)).records)
-    (every (told_states a (log_at s (a % w.text.logs)).records) (λ o. lists.open_less (reads_who s.book.acts) (reads_who (after w (Commit k) s).book.acts) h.kept (h.kept ++ OfBatch k ∷ []) (h.long a) (h.long a) o.who (λ i. i) (λ i. still_kept o.who h.kept (OfBatch k ∷ []) i) (λ i. reads_on_still w (Commit k) s o.who i))) (q a))
+    (every (told_states a (log_at s (a % w.text.logs)).records) (λ o. lists.open_less (reads_who s.book.acts) (reads_who (after w (Commit k) s).book.acts) h.kept (h.kept ++ OfBatch k ∷ []) (h.long a) (h.long a) o.who (λ i. i) (λ i. kept_join o.who h.kept (OfBatch k ∷ []) i) (λ i. reads_on_still w (Commit k) s o.who i))) (q a))
 none_later_kept {C} w Of finish (Decide t) s h v ok g wh su st pr te q = λ a.
     none_step (is_uncommitted_writer (reads_who (after w (Decide t) s).book.acts) (h.kept ++ kept_act (act_of t s.book.acts)) (h.long a)) h.kept (h.kept_readers ++ kept_reader (act_of t s.book.acts)) (told_states a (log_at s (a % w.text.logs)).records) (told_states a (log_at (after w (Decide t) s) (a % w.text.logs)).records)
     (inl (told_same a _ s.logs (t % w.text.logs) (a % w.text.logs) (told_commit a s.book.next_c (act_of t s.book.acts))))
     (lists.none_weaker (is_uncommitted_writer (reads_who s.book.acts) h.kept (h.long a)) (is_uncommitted_writer (reads_who (after w (Decide t) s).book.acts) (h.kept ++ kept_act (act_of t s.book.acts)) (h.long a)) (h.kept_readers ++ kept_reader (act_of t s.book.acts)) (told_states a (log_at s (a % w.text.logs)).records)
-    (every (told_states a (log_at s (a % w.text.logs)).records) (λ o. lists.open_less (reads_who s.book.acts) (reads_who (after w (Decide t) s).book.acts) h.kept (h.kept ++ kept_act (act_of t s.book.acts)) (h.long a) (h.long a) o.who (λ i. i) (λ i. still_kept o.who h.kept (kept_act (act_of t s.book.acts)) i) (λ i. reads_on_still w (Decide t) s o.who i))) (one a))
+    (every (told_states a (log_at s (a % w.text.logs)).records) (λ o. lists.open_less (reads_who s.book.acts) (reads_who (after w (Decide t) s).book.acts) h.kept (h.kept ++ kept_act (act_of t s.book.acts)) (h.long a) (h.long a) o.who (λ i. i) (λ i. kept_join o.who h.kept (kept_act (act_of t s.book.acts)) i) (λ i. reads_on_still w (Decide t) s o.who i))) (one a))
   where
     one : (a : ℕ) → NoneLater (is_uncommitted_writer (reads_who s.book.acts) h.kept (h.long a)) (h.kept_readers ++ kept_reader (act_of t s.book.acts)) (told_states a (log_at s (a % w.text.logs)).records)
     one a = let x = at_decide w Of finish t s h ok g in
@@ -307,7 +303,7 @@ unfolding Committed Tracked AllThere
 last_is_now w Of finish t a s h sure P ok g su up th wh r =
     all_in a (λ d. P d.who && writes d) (first_of w a) h.committed
     (weaker (λ d. is_some (d.views a) ≡ true → writes d ≡ true → (is_kept d.who h.kept ≡ true) × (is_on d.who (h.long a) ≡ true)) (λ d. is_some (d.views a) ≡ true → writes d ≡ true → (P d.who && writes d) ≡ true) h.committed
-    (λ d k c e. let i = k c e in both (P d.who) (writes d) (up d.who (reader_sure w Of finish t a s h sure ok g su (ap is_reader_act r.is_it ∙ r.reader) r.read r.stands d.who i.0 i.1)) e) (there_at h.kept h.long a h.committed th))
+    (λ d k c e. let i = k c e in and_from (P d.who) (writes d) (up d.who (reader_sure w Of finish t a s h sure ok g su (ap is_reader_act r.is_it ∙ r.reader) r.read r.stands d.who i.0 i.1)) e) (there_at h.kept h.long a h.committed th))
     (wh.ordered.stills a) (g.good.committed a).links
     ∙ sym (CommitLists.now_last (first_of w a) (cell_at s a).state (last_state a (first_of w a) h.committed) h.kept (h.long a) (g.good.committed a).front ((r.may.reads r.reader a).all_kept seen) (g.good.committed a).ends (g.good.tracked a).links)
   where

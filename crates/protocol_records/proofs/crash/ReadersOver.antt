@@ -24,6 +24,7 @@ use Rattle.protocol_laws.proofs.first.Lists.{weaker}
 use Rattle.protocol_laws.proofs.machine.AllGood.{AllGood}
 use Rattle.protocol_theorems.specs.Placed.{is_placed, InOrderOf, has_done, is_done_at, DoneFront}
 use Rattle.protocol_theorems.proofs.order.ChainsKept.{Chained}
+use Rattle.protocol_theorems.proofs.order.ChainLists.{in_order_in}
 use Rattle.protocol_records.proofs.crash.KeptSure.{SureOf}
 use Rattle.protocol_records.proofs.crash.ReadersSure.{reader_not_kept}
 
@@ -56,16 +57,6 @@ ahead_kept kept x y (Gone z ss ∷ rs) k b = ahead_kept kept x y rs k b
 
 -- ---- in the order of placing
 
-placed_in_order : (who : Who) (ys : List Who) (ks : List Key) → InOrderOf ys ks → is_key_among who ks ≡ true → is_placed who ys ≡ true
-placed_in_order who [] [] h e = e
-placed_in_order who [] (k ∷ ks) h e = absurd h
-placed_in_order who (y ∷ ys) [] h e = absurd (true≢false (sym e))
-placed_in_order who (y ∷ ys) (k ∷ ks) (inl h) e = elim (or_cases (is_who k.who who) (is_key_among who ks) e) [
-  | inl q ↦ or_left (is_who y who) _ (subst (λ z. is_who z who ≡ true) h.0 q)
-  | inr q ↦ or_right (is_who y who) _ (placed_in_order who ys ks h.1 q)
-]
-placed_in_order who (y ∷ ys) (k ∷ ks) (inr h) e = or_right (is_who y who) _ (placed_in_order who ys (k ∷ ks) h e)
-
 some_done : (a : ℕ) (ds : List Done) (y : Who) (ys : List Who) → is_done_at a ds y ≡ true → is_placed y ys ≡ true → list_any (is_done_at a ds) ys ≡ true
 some_done a ds y [] d p = absurd (true≢false (sym p))
 some_done a ds y (z ∷ zs) d p = elim (or_cases (is_who z y) (is_placed y zs) p) [
@@ -80,7 +71,7 @@ ahead_done a rd kept ds keys [] (k ∷ ks) x y h i b d e = absurd i
 ahead_done a rd kept ds keys (z ∷ ys) [] x y h i b d e = absurd b
 ahead_done a rd kept ds keys (z ∷ ys) (k ∷ ks) x y h (inl i) (inl b) d e =
     let j : z ≡ x = sym i.0 ∙ is_who_true k.who x b.0 in
-    subst (λ v. ((is_kept v kept || has_done ds v) || rd v) ≡ true) j (h.0 (some_done a ds y ys d (placed_in_order y ys ks i.1 b.1)) (subst (λ v. is_key_among v keys ≡ true) (sym j) e))
+    subst (λ v. ((is_kept v kept || has_done ds v) || rd v) ≡ true) j (h.0 (some_done a ds y ys d (in_order_in y ys ks i.1 b.1)) (subst (λ v. is_key_among v keys ≡ true) (sym j) e))
 ahead_done a rd kept ds keys (z ∷ ys) (k ∷ ks) x y h (inl i) (inr b) d e = ahead_done a rd kept ds keys ys ks x y h.2 i.1 b d e
 ahead_done a rd kept ds keys (z ∷ ys) (k ∷ ks) x y h (inr i) b d e = ahead_done a rd kept ds keys ys (k ∷ ks) x y h.2 i b d e
 

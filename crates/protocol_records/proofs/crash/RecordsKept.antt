@@ -15,6 +15,7 @@ use Rattle.protocol_laws.specs.Commits.{is_kept}
 use Rattle.protocol.specs.Moments.{left_in}
 use Rattle.protocol_records.specs.Crash.{is_in}
 use Rattle.protocol_laws.proofs.first.Lists.{any_join, any_take}
+use Rattle.protocol_theorems.proofs.order.ChainLists.{kept_grows}
 
 abbrev pub is_record_of : Who → LogRecord → Bool
 is_record_of (OfBatch k) r = is_commit k r
@@ -37,10 +38,6 @@ synced_to p (x ∷ xs) zero zero n h = h
 synced_to p (x ∷ xs) zero (suc i) n h = h
 synced_to p (x ∷ xs) (suc l) zero n h = h
 synced_to p (x ∷ xs) (suc l) (suc i) n h = synced_to p xs l i n h
-
-kept_grows : (kept more : List Who) (y : Who) → is_kept y kept ≡ true → is_kept y (kept ++ more) ≡ true
-kept_grows [] more y e = absurd (true≢false (sym e))
-kept_grows (z ∷ zs) more y e = elim (or_cases (is_who z y) (is_kept y zs) e) [ inl q ↦ or_left (is_who z y) _ q | inr q ↦ or_right (is_who z y) _ (kept_grows zs more y q) ]
 
 kept_end : (kept more : List Who) (y : Who) → is_kept y more ≡ true → is_kept y (kept ++ more) ≡ true
 kept_end [] more y e = e

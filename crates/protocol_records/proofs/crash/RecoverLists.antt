@@ -2,7 +2,7 @@
 use Rattle.std.specs.Prelude.{◌≡◌, refl, ℕ, Bool, true, false, ◌&&◌, ◌⊎◌, if◌then◌else◌, Option, Some, None, is_some, List, [], ◌∷◌, ◌++◌, filter}
 use Rattle.std.specs.List.{AllByRecursion}
 use Rattle.std.proofs.Common.{sym, ap, subst, inl, inr, ◌∙◌}
-use Rattle.std.proofs.lemmas.Bool.{true≢false, or_cases, or_left, or_parts, and_parts, cases_Bool, false_from_ne_true}
+use Rattle.std.proofs.lemmas.Bool.{true≢false, or_cases, or_left, or_parts, and_parts, cases_Bool, false_from_ne_true, and_from}
 use Rattle.snap_base.specs.declared.transactions.State.{State}
 use Rattle.protocol.specs.Parts.{Who}
 use Rattle.protocol.specs.Words.{is_who, is_value}
@@ -18,7 +18,6 @@ use Rattle.protocol_records.proofs.crash.TellLists.{linked_end, none_later, not_
 use Rattle.protocol_records.proofs.crash.Durable.{any_back}
 use Rattle.protocol_laws.proofs.first.Lists.{all_join, any_front, any_join, filter_join, join_assoc, weaker}
 use Rattle.protocol_theorems.proofs.sets.RowsAgree.{filter_same}
-use Rattle.protocol_records.proofs.crash.ActPlaces.{both}
 use Rattle.protocol_theorems.specs.Order.{LeavesIt}
 use Rattle.protocol_theorems.proofs.order.OrderImplied.{passes, still_left}
 
@@ -96,7 +95,7 @@ front_part P on (x ∷ xs) y h = ((λ e q. h.0 e (any_front (λ z. on z && P z) 
 pub front_all : (P on : Who → Bool) (xs : List Who) (y z : Who) → FrontIn P on (xs ++ y ∷ []) → on y ≡ true → P y ≡ true → is_kept z xs ≡ true → on z ≡ true → P z ≡ true
 front_all P on [] y z h o p k oz = absurd (true≢false (sym k))
 front_all P on (x ∷ xs) y z h o p k oz = elim (or_cases (is_who x z) (is_kept z xs) k) [
-  | inl q ↦ let j = TrackLists.is_who_true x z q in subst (λ v. P v ≡ true) j (h.0 (subst (λ v. on v ≡ true) (sym j) oz) (any_back (λ z. on z && P z) xs (y ∷ []) (or_left (on y && P y) false (both (on y) (P y) o p))))
+  | inl q ↦ let j = TrackLists.is_who_true x z q in subst (λ v. P v ≡ true) j (h.0 (subst (λ v. on v ≡ true) (sym j) oz) (any_back (λ z. on z && P z) xs (y ∷ []) (or_left (on y && P y) false (and_from (on y) (P y) o p))))
   | inr q ↦ front_all P on xs y z h.1 o p q oz
 ]
 
@@ -169,7 +168,7 @@ same_test P y z kept long e k = by (P z) (is_kept z (kept ++ y ∷ [])) (is_kept
     by true false true a b d = absurd (true≢false (sym (any_front (λ v. is_who v z) kept (y ∷ []) d) ∙ b))
     by true true false a b d = elim (kept_end y z kept b) [
       | inl i ↦ absurd (true≢false (sym i ∙ d))
-      | inr i ↦ let j = TrackLists.is_who_true y z i in absurd (true≢false (sym (both (P y) (is_on y long) (subst (λ v. P v ≡ true) (sym j) a) (subst (λ v. is_on v long ≡ true) (sym j) (k b))) ∙ e))
+      | inr i ↦ let j = TrackLists.is_who_true y z i in absurd (true≢false (sym (and_from (P y) (is_on y long) (subst (λ v. P v ≡ true) (sym j) a) (subst (λ v. is_on v long ≡ true) (sym j) (k b))) ∙ e))
     ]
 
 pub recovers_commit : (a : ℕ) (rd : Who → Bool) (first : State) (kept : List Who) (committed ds : List Done) (y : Who) (long : List Ran) (os : List One) → Commits1 a rd first kept committed ds y long os → RecoversAt a first kept committed long os → RecoversAt a first (kept ++ y ∷ []) (committed ++ ds) long os
@@ -190,9 +189,9 @@ recovers_commit a rd first kept committed ds y long os c r P f = elim (cases_Boo
         (λ st later t. told_is first y st later kept long oy c.fresh c.front c.ahead t ∙ (ap (end_state first) (sym (slices_commit kept y long c.fresh c.differ c.ahead c.front)) ∙ sym (linked_end first (last_state a first (committed ++ ds)) (kept_slices (kept ++ y ∷ []) long) c.ends)))
         (weaker (λ o. is_kept o.who (kept ++ y ∷ []) ≡ true → is_on o.who long ≡ true) (λ o. (P o.who && is_kept o.who (kept ++ y ∷ [])) ≡ true → (is_kept o.who kept ≡ true) × (is_on o.who long ≡ true) ⊎ (is_who y o.who ≡ true)) os
         (λ o k v. let u = and_parts (P o.who) (is_kept o.who (kept ++ y ∷ [])) v in elim (kept_end y o.who kept u.1) [ inl i ↦ inl (i, k u.1) | inr i ↦ inr i ]) c.recorded)
-        (λ o e. let j = TrackLists.is_who_true y o.who e in both (P o.who) _ (subst (λ z. P z ≡ true) j py) (subst (λ z. is_kept z (kept ++ y ∷ []) ≡ true) j self_kept))
+        (λ o e. let j = TrackLists.is_who_true y o.who e in and_from (P o.who) _ (subst (λ z. P z ≡ true) j py) (subst (λ z. is_kept z (kept ++ y ∷ []) ≡ true) j self_kept))
         (c.has_record oy) c.tells
-        ∙ sym (all_in a (λ d. P d.who && writes d) first (committed ++ ds) (all_join (λ d. is_some (d.views a) ≡ true → writes d ≡ true → (P d.who && writes d) ≡ true) committed ds (weaker _ _ committed (λ d k v u. let i = k v u in both (P d.who) (writes d) (front_all P (λ z. is_on z long) kept y d.who f oy py i.0 i.1) u) c.there) (weaker (λ d. d.who ≡ y) (λ d. is_some (d.views a) ≡ true → writes d ≡ true → (P d.who && writes d) ≡ true) ds (λ d i v u. both (P d.who) (writes d) (subst (λ z. P z ≡ true) (sym i) py) u) c.own)) c.still c.links)
+        ∙ sym (all_in a (λ d. P d.who && writes d) first (committed ++ ds) (all_join (λ d. is_some (d.views a) ≡ true → writes d ≡ true → (P d.who && writes d) ≡ true) committed ds (weaker _ _ committed (λ d k v u. let i = k v u in and_from (P d.who) (writes d) (front_all P (λ z. is_on z long) kept y d.who f oy py i.0 i.1) u) c.there) (weaker (λ d. d.who ≡ y) (λ d. is_some (d.views a) ≡ true → writes d ≡ true → (P d.who && writes d) ≡ true) ds (λ d i v u. and_from (P d.who) (writes d) (subst (λ z. P z ≡ true) (sym i) py) u) c.own)) c.still c.links)
 
     same : (P y && is_on y long) ≡ false → last_one first (filter (λ o. P o.who && is_kept o.who (kept ++ y ∷ [])) os) ≡ last_state a first (filter (λ d. P d.who && writes d) (committed ++ ds))
     same e =
@@ -203,4 +202,4 @@ recovers_commit a rd first kept committed ds y long os c r P f = elim (cases_Boo
       where
         away : (zs : List Done) → AllByRecursion (λ d. d.who ≡ y) zs → AllByRecursion (λ d. is_some (d.views a) ≡ true → is_on y long ≡ true) zs → AllByRecursion (λ d. (P d.who && writes d) ≡ true → is_some (d.views a) ≡ false) zs
         away [] i j = tt
-        away (d ∷ zs) i j = ((λ v. false_from_ne_true (is_some (d.views a)) (λ u. true≢false (sym (both (P y) (is_on y long) (subst (λ z. P z ≡ true) i.0 (and_parts (P d.who) (writes d) v).0) (j.0 u)) ∙ e))), away zs i.1 j.1)
+        away (d ∷ zs) i j = ((λ v. false_from_ne_true (is_some (d.views a)) (λ u. true≢false (sym (and_from (P y) (is_on y long) (subst (λ z. P z ≡ true) i.0 (and_parts (P d.who) (writes d) v).0) (j.0 u)) ∙ e))), away zs i.1 j.1)

@@ -3,7 +3,7 @@ use Rattle.std.specs.Prelude.{◌≡◌, refl, ℕ, ◌%◌, ◌==◌, not, Bool
 use Rattle.std.specs.List.{AllByRecursion, list_any, list_all}
 use Rattle.std.proofs.Common.{sym, ap, subst, inl, inr, ◌∙◌}
 use Rattle.std.proofs.lemmas.List.{append-nil}
-use Rattle.std.proofs.lemmas.Bool.{true≢false, or_cases, or_left, or_right, or_from, and_parts, eqb-true, eq-eqb, not-true}
+use Rattle.std.proofs.lemmas.Bool.{true≢false, or_cases, or_left, or_right, or_from, and_parts, eqb-true, eq-eqb, not-true, and_from}
 use Rattle.snap_base.specs.declared.transactions.Tx.{Tx}
 use Rattle.snap_base.specs.declared.transactions.State.{State}
 use Rattle.protocol.specs.Facts.{Alone}
@@ -40,7 +40,6 @@ use Rattle.protocol_records.proofs.crash.RecoverLists.{Commits1, recovers_commit
 use Rattle.protocol_laws.proofs.first.Lists.{all_found, any_take, filter_join, weaker}
 use Rattle.protocol_laws.proofs.first.Statuses.{live_not_doomed}
 use Rattle.protocol_laws.proofs.machine.MarksKept.{log_synced}
-use Rattle.protocol_records.proofs.crash.ActPlaces.{both}
 use Rattle.protocol_theorems.specs.Order.{LeavesIt}
 use Rattle.protocol_theorems.proofs.order.LastLaw.{Whole}
 use Rattle.protocol_theorems.proofs.order.LastLaw as last
@@ -56,7 +55,7 @@ front_same P on on' kept (y ∷ ys) k i h =
     any : (zs : List Who) → ((z : Who) → is_kept z zs ≡ true → is_kept z kept ≡ true) → list_any (λ z. on z && P z) zs ≡ true → list_any (λ z. on' z && P z) zs ≡ true
     any [] j q = q
     any (z ∷ zs) j q = elim (or_cases (on z && P z) _ q) [
-      | inl v ↦ let u = and_parts (on z) (P z) v in or_left (on' z && P z) _ (both (on' z) (P z) (k z (j z (or_left (is_who z z) _ (TrackLists.is_who_refl z))) ∙ u.0) u.1)
+      | inl v ↦ let u = and_parts (on z) (P z) v in or_left (on' z && P z) _ (and_from (on' z) (P z) (k z (j z (or_left (is_who z z) _ (TrackLists.is_who_refl z))) ∙ u.0) u.1)
       | inr v ↦ or_right (on' z && P z) _ (any zs (λ x g. j x (or_right (is_who z x) _ g)) v)
     ]
 

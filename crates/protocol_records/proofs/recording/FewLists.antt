@@ -7,7 +7,7 @@ use Rattle.protocol.specs.Words.{count, is_among}
 use Rattle.protocol.specs.Numbers.{times}
 use Rattle.protocol.specs.Left.{total}
 
-count_more : {X : Type 0} (p : X → Bool) (x : X) (xs : List X) → p x ≡ true → count p (x ∷ xs) ≡ 1 + count p xs
+pub count_more : {X : Type 0} (p : X → Bool) (x : X) (xs : List X) → p x ≡ true → count p (x ∷ xs) ≡ 1 + count p xs
 count_more p x xs e = by (p x) e
   where
     by : (b : Bool) → b ≡ true → length (if b then x ∷ filter p xs else filter p xs) ≡ 1 + length (filter p xs)

@@ -46,7 +46,7 @@ use Rattle.protocol_records.proofs.recording.AddedOnce.{OnceKeys}
 use Rattle.protocol_records.proofs.recording.RecordsHold.{Records, records_hold, records_opened, tells_of, tells_opened, of_runs}
 use Rattle.protocol_laws.proofs.first.Controls.{at_most_one}
 use Rattle.protocol_theorems.proofs.order.NamesKept.{numbered_length}
-use Rattle.protocol_theorems.proofs.quiet.SizesHold.{some_taken}
+use Rattle.protocol_theorems.proofs.quiet.LeftRing.{some_taken}
 
 -- ---- the keys that records may have
 

@@ -1,10 +1,11 @@
 -- The next numbers are above those of all members, and not above those that come next.
-use Rattle.std.specs.Prelude.{◌≡◌, refl, ℕ, zero, suc, ◌+◌, ◌-◌, ◌%◌, ◌<◌, ◌≤◌, ◌==◌, max, not, Bool, true, false, ◌&&◌, Option, Some, None, option_map, List, [], ◌∷◌, ◌++◌, length, map, filter, take}
+use Rattle.std.specs.Prelude.{◌≡◌, refl, ℕ, zero, suc, ◌+◌, ◌-◌, ◌%◌, ◌<◌, ◌≤◌, ◌==◌, max, not, Bool, true, false, ◌&&◌, Some, List, [], ◌∷◌, ◌++◌, length, map, filter, take}
 use Rattle.std.specs.List.{AllByRecursion, flat_map}
 use Rattle.std.proofs.Common.{arith, sym, ap, subst, mod-lt, ◌∙◌}
 use Rattle.std.proofs.lemmas.Bool.{true≢false, and_parts, eqb-true}
 use Rattle.snap_base.specs.declared.transactions.Tx.{Tx}
 use Rattle.snap_base.specs.declared.transactions.State.{State}
+use Rattle.snap_base.proofs.Options.{some_mapped}
 use Rattle.protocol.specs.Facts.{Alone}
 use Rattle.protocol.specs.Fixed.{Fixed, IsText}
 use Rattle.protocol.specs.Records.{LogRecord, BatchInfo, BatchComplete, BatchDone, ActPrepare, ActDone}
@@ -87,10 +88,6 @@ tids_all : (low high : ℕ) (ps : List Pact) → AllByRecursion (λ p. IsWithin 
 tids_all low high [] h = tt
 tids_all low high (p ∷ ps) h = (h.0.below, tids_all low high ps h.1)
 
-mapped_is : {X Y : Type 0} (f : X → Y) (o : Option X) (y : Y) → option_map f o ≡ Some y → (x : X) × (o ≡ Some x) × (f x ≡ y)
-mapped_is f None y e = absurd (cc e)
-mapped_is f (Some x) y e = (x, refl, cc e)
-
 batch_drawn : {C : Type 0} (w : Fixed C) (s : Machine C) (k : ℕ) (b : Batch) → NumbersInRange w s → batch_of k s.desk.batches ≡ Some b → k < s.ring.next_bid
 batch_drawn w s k b r e = let g = all_found (BatchInRange w s) (λ b. b.bid == k) s.desk.batches b r.batches e in subst (λ z. z < s.ring.next_bid) (eqb-true b.bid k g.1) g.0.bid.below
 
@@ -99,7 +96,7 @@ act_drawn w s t x r e = let g = all_found (ActInRange w s) (λ x. x.tid == t) s.
 
 tids_drawn : {C : Type 0} (w : Fixed C) (s : Machine C) (r : LogRecord) → Numbers w s → TellsOf s.desk.batches s.book.acts r → AllByRecursion (λ n. n < s.ring.next_tid) (tids_in r)
 tids_drawn w s (BatchInfo k actors tids) n t =
-    let b = mapped_is batch_tids (batch_of k s.desk.batches) tids t.1 in
+    let b = some_mapped batch_tids (batch_of k s.desk.batches) tids t.1 in
     let g = all_found (BatchInRange w s) (λ b. b.bid == k) s.desk.batches b.0 n.range.batches b.1 in
     subst (AllByRecursion (λ n. n < s.ring.next_tid)) b.2 (tids_all w.text.opening.next_tid s.ring.next_tid b.0.pacts g.0.tids)
 tids_drawn w s (BatchComplete k a st) n t = tt
@@ -109,7 +106,7 @@ tids_drawn w s (ActDone u m c v actors) n t = (act_drawn w s u t.act n.range t.f
 
 bids_drawn : {C : Type 0} (w : Fixed C) (s : Machine C) (h : History) (r : LogRecord) → Numbers w s → Acts s h → TellsOf s.desk.batches s.book.acts r → AllByRecursion (λ n. n < s.ring.next_bid) (bids_in r)
 unfolding Acts
-bids_drawn w s h (BatchInfo k actors tids) n ac t = let b = mapped_is batch_tids (batch_of k s.desk.batches) tids t.1 in (batch_drawn w s k b.0 n.range b.1, tt)
+bids_drawn w s h (BatchInfo k actors tids) n ac t = let b = some_mapped batch_tids (batch_of k s.desk.batches) tids t.1 in (batch_drawn w s k b.0 n.range b.1, tt)
 bids_drawn w s h (BatchComplete k a st) n ac t = let b = one_is (λ b. is_among a (batch_actors b)) (batch_of k s.desk.batches) t in (batch_drawn w s k b.0 n.range b.1, tt)
 bids_drawn w s h (BatchDone k vs) n ac t = let b = one_is (λ b. not (is_formed b.stage)) (batch_of k s.desk.batches) t.0 in (batch_drawn w s k b.0 n.range b.1, tt)
 bids_drawn w s h (ActPrepare u a st) n ac t = tt
@@ -142,7 +139,7 @@ member_pact w finish s h logs k d some n kn f p i e =
     let old = of_pact w s h k d n kn p i in
     let q = f.whole_batches k e in
     let t = all_mid (TellsOf s.desk.batches s.book.acts) (BatchInfo k q.actors q.tids) q.front q.rest (subst (AllByRecursion (TellsOf s.desk.batches s.book.acts)) q.info (f.tells (k % w.text.logs))) in
-    let b = mapped_is batch_tids (batch_of k s.desk.batches) q.tids t.1 in
+    let b = some_mapped batch_tids (batch_of k s.desk.batches) q.tids t.1 in
     let tids = is_below tids_in w.text.opening.next_tid w.text.logs (k % w.text.logs) logs q.front q.rest (BatchInfo k q.actors q.tids) (mod-lt k some) q.info in
     let bids = is_below bids_in w.text.opening.next_bid w.text.logs (k % w.text.logs) logs q.front q.rest (BatchInfo k q.actors q.tids) (mod-lt k some) q.info in
     let place = subst (λ z. IsPlaceWithin w s.ring.next_bid s.book.next_c z d.place) i old.place in

@@ -44,7 +44,7 @@ of_actors : (a : ℕ) (o : Option Batch) (xs : List ℕ) → actors_of_batch o �
 of_actors a None xs e i = absurd (cc e)
 of_actors a (Some b) xs e i = let q : xs ≡ map (λ p. p.actor) b.places = cc (sym e) in subst (λ z. is_among a z ≡ true) q i
 
-holds_weaker : {X : Type 0} (p q : X → Bool) (o : Option X) → ((x : X) → p x ≡ true → q x ≡ true) → holds p o ≡ true → holds q o ≡ true
+pub holds_weaker : {X : Type 0} (p q : X → Bool) (o : Option X) → ((x : X) → p x ≡ true → q x ≡ true) → holds p o ≡ true → holds q o ≡ true
 holds_weaker p q None k e = e
 holds_weaker p q (Some x) k e = k x e
 

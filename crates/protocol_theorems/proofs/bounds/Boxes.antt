@@ -6,6 +6,7 @@ use Rattle.std.proofs.Common.{arith, sym, ap, subst, inl, inr, ◌∙◌}
 use Rattle.std.proofs.lemmas.Bool.{true≢false, or_cases}
 use Rattle.snap_base.specs.declared.transactions.State.{State}
 use Rattle.snap_base.specs.declared.transactions.Tx.{Tx}
+use Rattle.snap_base.proofs.Lists.{map_twice}
 use Rattle.protocol.specs.Facts.{Alone}
 use Rattle.protocol.specs.Fixed.{Fixed, IsText, base}
 use Rattle.protocol.specs.Parts.{Slot, Entry, BatchEntry, ActEntry, Cell, Machine}
@@ -74,10 +75,6 @@ one_most : {C : Type 0} (n : ℕ) (f : Cell C → List ℕ) (cs : List (Cell C))
 one_most n f [] a e = omega (arith, ap (times n) e)
 one_most n f (c ∷ cs) zero e = omega (arith, Times.times_append n (f c) (flat (map f cs)))
 one_most n f (c ∷ cs) (suc a) e = omega (arith, one_most n f cs a e, Times.times_append n (f c) (flat (map f cs)))
-
-map_twice : {X Y Z : Type 0} (g : Y → Z) (f : X → Y) (xs : List X) → map g (map f xs) ≡ map (λ x. g (f x)) xs
-map_twice g f [] = refl
-map_twice g f (x ∷ xs) = ap (λ z. g (f x) ∷ z) (map_twice g f xs)
 
 in_boxes : {C : Type 0} → Cell C → List ℕ
 in_boxes c = waiting_tids c.inbox ++ outcome_tids c.outbox

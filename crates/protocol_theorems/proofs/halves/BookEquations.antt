@@ -2,8 +2,9 @@
 use Rattle.std.specs.Prelude.{◌≡◌, refl, ℕ, ◌==◌, nat_le, Bool, true, false, ◌&&◌, Option, Some, None, is_some, List, [], ◌∷◌, ◌++◌, map}
 use Rattle.std.specs.List.{AllByRecursion}
 use Rattle.std.proofs.Common.{sym, ap, subst, ◌∙◌}
-use Rattle.std.proofs.lemmas.Bool.{true≢false, eqb-true, eq-eqb, eqb-false}
+use Rattle.std.proofs.lemmas.Bool.{true≢false, eqb-true}
 use Rattle.snap_base.specs.declared.transactions.TxResult.{TxResult}
+use Rattle.snap_base.proofs.Booleans.{eqb_turned}
 use Rattle.protocol.specs.Fixed.{Next, Go, Ended}
 use Rattle.protocol.specs.Rivals.{Lock}
 use Rattle.protocol.specs.Parts.{Joined, Act, Pair, Cascade, Book, Outcome}
@@ -66,13 +67,9 @@ each_voted vs us t f x own other = by (x.tid == t) refl
     by true e = own e
     by false e = ap (λ z. act_by z x) (sym (other e))
 
-turned : (m n : ℕ) (b : Bool) → (m == n) ≡ b → (n == m) ≡ b
-turned m n true e = eq-eqb n m (sym (eqb-true m n e))
-turned m n false e = Rattle.std.proofs.lemmas.Bool.ne_eqb n m (λ q. eqb-false m n e (sym q))
-
 ends_with : (t : ℕ) (r : TxResult) (actors : List ℕ) (vs xs : List Act) → act_of t vs ≡ None → AllByRecursion IsOrder xs → book.changed_act t (book.with_result r) (with_votes vs xs) ≡ with_votes (vs ++ voted.first_votes t r actors ∷ []) xs
 ends_with t r actors vs xs n h = ActWithVotes.map_votes vs us (λ x. book.change_if (x.tid == t) (book.with_result r) x) xs
-    (weaker IsOrder _ xs (λ x k. each_voted vs us t (book.with_result r) x (own x k) (λ e. voted.found_ahead x.tid new vs (turned x.tid t false e))) h)
+    (weaker IsOrder _ xs (λ x k. each_voted vs us t (book.with_result r) x (own x k) (λ e. voted.found_ahead x.tid new vs (eqb_turned x.tid t false e))) h)
   where
     new : Act
     new = voted.first_votes t r actors
@@ -82,7 +79,7 @@ ends_with t r actors vs xs n h = ActWithVotes.map_votes vs us (λ x. book.change
 
     own : (x : Act) → IsOrder x → (x.tid == t) ≡ true → book.with_result r (act_by (act_of x.tid vs) x) ≡ act_by (act_of x.tid (vs ++ voted.first_votes t r actors ∷ [])) x
     own x k e = let q : act_of x.tid vs ≡ None = ap (λ z. act_of z vs) (eqb-true x.tid t e) ∙ n in
-        ap (λ z. book.with_result r (act_by z x)) q ∙ (voted.act_ends t r actors x k.unvoted ∙ ap (λ z. act_by z x) (sym (voted.found_behind x.tid (voted.first_votes t r actors) vs q (turned x.tid t true e))))
+        ap (λ z. book.with_result r (act_by z x)) q ∙ (voted.act_ends t r actors x k.unvoted ∙ ap (λ z. act_by z x) (sym (voted.found_behind x.tid (voted.first_votes t r actors) vs q (eqb_turned x.tid t true e))))
 
 pub ends : {C : Type 0} (o v : Book) (cs : List Cascade) (t : ℕ) (is_act : Bool) (actors : List ℕ) (x : Option (Outcome C)) → AllByRecursion IsOrder o.acts → (is_act ≡ true → act_of t v.acts ≡ None) → book.act_ended t is_act x (book_of o v cs) ≡ book_of o (votes_ended t is_act actors x v) cs
 ends o v cs t false actors x h n = refl

@@ -2,8 +2,9 @@
 use Rattle.std.specs.Prelude.{◌≡◌, refl, ℕ, ◌≤◌, ◌==◌, nat_le, Bool, true, false, ◌&&◌, ◌||◌, if◌then◌else◌, Option, Some, None, is_some, option_map, List, [], ◌∷◌, ◌++◌, map, find}
 use Rattle.std.specs.List.{AllByRecursion}
 use Rattle.std.proofs.Common.{arith, sym, ap, subst, ◌∙◌}
-use Rattle.std.proofs.lemmas.Bool.{true≢false, eqb-true, eq-eqb, and_parts}
+use Rattle.std.proofs.lemmas.Bool.{true≢false, eqb-true, and_parts}
 use Rattle.snap_base.specs.declared.transactions.TxResult.{TxResult}
+use Rattle.snap_base.proofs.Booleans.{eqb_turned}
 use Rattle.protocol.specs.Rivals.{Lock}
 use Rattle.protocol.specs.Parts.{Joined, Status, Live, Doomed, Decided, Sealed, Act, Pair, Book}
 use Rattle.protocol.specs.Words.{holds, is_among, act_of, joined_of, is_live_status, is_doomed, is_decided, is_ordered, is_value}
@@ -147,10 +148,6 @@ no_votes_actors (a ∷ actors) = ap (λ z. a ∷ z) (no_votes_actors actors)
 first_fit : (t : ℕ) (r : TxResult) (actors : List ℕ) (x : Act) → actors ≡ actors_of x.places → is_ordered x.status ≡ false → IsVoted (voted.first_votes t r actors) x
 first_fit t r actors x e h = record { ended = refl; actors = no_votes_actors actors ∙ e; undoomed = refl; placed = sym h }
 
-flipped : (m n : ℕ) (b : Bool) → (m == n) ≡ b → (n == m) ≡ b
-flipped m n true e = eq-eqb n m (sym (eqb-true m n e))
-flipped m n false e = Rattle.std.proofs.lemmas.Bool.ne_eqb n m (λ q. Rattle.std.proofs.lemmas.Bool.eqb-false m n e (sym q))
-
 pub ends : (t : ℕ) (r : TxResult) (vs xs : List Act) (z : Act) → act_of t xs ≡ Some z → act_of t vs ≡ None → OrdersFit vs xs → OrdersFit (vs ++ voted.first_votes t r (actors_of z.places) ∷ []) xs
 ends t r vs xs z e n g = keep_orders vs us xs (weaker (λ x. act_of x.tid xs ≡ Some x) _ xs (λ x f i h. by x f h (x.tid == t) refl) (each_found xs g.apart)) g
   where
@@ -163,9 +160,9 @@ ends t r vs xs z e n g = keep_orders vs us xs (weaker (λ x. act_of x.tid xs ≡
         let k : act_of x.tid vs ≡ None = ap (λ m. act_of m vs) i ∙ n in
         let same : Some z ≡ Some x = sym e ∙ (ap (λ m. act_of m xs) (sym i) ∙ f) in
         let is : z ≡ x = cc same in
-        subst (λ v. IsVotedBy v x) (sym (voted.found_behind x.tid (voted.first_votes t r (actors_of z.places)) vs k (flipped x.tid t true q)))
+        subst (λ v. IsVotedBy v x) (sym (voted.found_behind x.tid (voted.first_votes t r (actors_of z.places)) vs k (eqb_turned x.tid t true q)))
         (first_fit t r (actors_of z.places) x (ap (λ y. actors_of y.places) is) (subst (λ v. IsVotedBy v x) k h))
-    by x f h false q = subst (λ v. IsVotedBy v x) (sym (voted.found_ahead x.tid (voted.first_votes t r (actors_of z.places)) vs (flipped x.tid t false q))) h
+    by x f h false q = subst (λ v. IsVotedBy v x) (sym (voted.found_ahead x.tid (voted.first_votes t r (actors_of z.places)) vs (eqb_turned x.tid t false q))) h
 
 changed_votes : (t : ℕ) (f : Act → Act) → ((y : Act) → (f y).tid ≡ y.tid) → ((y x : Act) → IsVoted y x → IsVoted (f y) x) → (vs xs : List Act) → OrdersFit vs xs → OrdersFit (book.changed_act t f vs) xs
 changed_votes t f i k vs xs g = keep_orders vs (book.changed_act t f vs) xs (all_of _ xs (λ x j h. by x (x.tid == t) refl (act_of x.tid vs) refl h)) g

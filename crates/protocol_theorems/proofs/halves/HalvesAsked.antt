@@ -4,6 +4,7 @@ use Rattle.std.specs.List.{AllByRecursion, list_all}
 use Rattle.std.proofs.Common.{sym, ap, subst, ◌∙◌}
 use Rattle.std.proofs.lemmas.Bool.{true≢false, or_parts}
 use Rattle.snap_base.specs.declared.verdicts.Verdict.{Verdict}
+use Rattle.snap_base.proofs.Options.{nobody_is}
 use Rattle.protocol.specs.Parts.{Joined, Status, Live, Doomed, Decided, Sealed, Act}
 use Rattle.protocol.specs.Words.{holds, count, is_among, is_empty, act_of, joined_of, is_live_act, is_vouched_everywhere, is_doomed, is_decided, is_sealed, is_ordered}
 use Rattle.protocol.specs.Numbers.{times}
@@ -77,10 +78,6 @@ joined_found a v (p ∷ ps) = ap (λ z. if z == a then Some (place_by v p) else 
 pub left_mark : (f : Bool → Bool) (a : ℕ) (v : Option Act) (x : Act) → holds (λ p. f p.finished) (joined_of a (act_by v x)) ≡ holds (λ p. f p.finished) (joined_of a x)
 left_mark f a v x = ap (holds (λ p. f p.finished)) (joined_found a v x.places) ∙ holds_map (λ p. f p.finished) (place_by v) (joined_of a x) (λ p. ap f (place_finished v p))
 
-none_or : {X : Type 0} (o : Option X) → is_some o ≡ false → o ≡ None
-none_or None h = refl
-none_or (Some x) h = absurd (true≢false h)
-
 pub vote_mark : (f : Bool → Bool → Bool) (a : ℕ) (y x : Act) → actors_of y.places ≡ actors_of x.places → holds (λ p. f p.prepared p.vouched) (joined_of a (act_by (Some y) x)) ≡ holds (λ p. f p.prepared p.vouched) (joined_of a y)
 vote_mark f a y x e = ap (holds (λ p. f p.prepared p.vouched)) (joined_found a (Some y) x.places) ∙ by (joined_of a x) refl
   where
@@ -92,7 +89,7 @@ vote_mark f a y x e = ap (holds (λ p. f p.prepared p.vouched)) (joined_found a 
     own p (Some z) q k n = ap (λ o. holds (λ p. f p.prepared p.vouched) (Some (joined_by o p))) (ap (λ m. joined_of m y) n ∙ q)
 
     by : (o : Option Joined) → joined_of a x ≡ o → holds (λ p. f p.prepared p.vouched) (option_map (place_by (Some y)) o) ≡ holds (λ p. f p.prepared p.vouched) (joined_of a y)
-    by None q = sym (ap (holds (λ p. f p.prepared p.vouched)) (none_or (joined_of a y) (sym there ∙ ap is_some q)))
+    by None q = sym (ap (holds (λ p. f p.prepared p.vouched)) (nobody_is (joined_of a y) (sym there ∙ ap is_some q)))
     by (Some p) q = own p (joined_of a y) refl (sym there ∙ ap is_some q) (joined_actor_is a p x.places q)
 
 all_vouched : (y : Act) (ps qs : List Joined) → actors_of qs ≡ actors_of ps → AllByRecursion (λ q. joined_of q.actor y ≡ Some q) qs → list_all (λ p. p.vouched) (map (place_by (Some y)) ps) ≡ list_all (λ q. q.vouched) qs

@@ -1,9 +1,10 @@
 -- The halves of the book go on as the halves of the book after each event, over every run.
-use Rattle.std.specs.Prelude.{◌≡◌, refl, ℕ, zero, suc, ◌≤◌, ◌==◌, Bool, true, false, not, ◌&&◌, ◌||◌, Option, Some, None, is_some, option_map, List, [], ◌∷◌, length, map, find}
+use Rattle.std.specs.Prelude.{◌≡◌, refl, ℕ, zero, suc, ◌≤◌, ◌==◌, Bool, true, false, not, ◌&&◌, ◌||◌, Option, Some, None, is_some, List, [], ◌∷◌, length, map, find}
 use Rattle.std.proofs.Common.{arith, sym, ap, subst, ◌∙◌}
 use Rattle.std.proofs.lemmas.Bool.{true≢false, eqb-true, and_parts, or_parts}
 use Rattle.snap_base.specs.declared.transactions.State.{State}
 use Rattle.snap_base.specs.declared.transactions.Tx.{Tx}
+use Rattle.snap_base.proofs.Options.{none_mapped, pair_mapped}
 use Rattle.protocol.specs.Fixed.{Fixed, Next, Go, Ended, base, is_reader}
 use Rattle.protocol.specs.Facts.{Alone}
 use Rattle.protocol.specs.Rests.{IsRest, IsTxIn}
@@ -99,10 +100,6 @@ step w e s o v i m = record { is = i.is; fits = i.fits }
 
 -- ---- what an allowed event finds in them
 
-none_back : {X Y : Type 0} (f : X → Y) (o : Option X) → option_map f o ≡ None → o ≡ None
-none_back f None e = refl
-none_back f (Some x) e = absurd (cc e)
-
 -- one of the book is one of the orders, with its votes
 pub record Halved (o v : Book) (t : ℕ) (x : Act) : Type 0 where
   pub order : Act
@@ -111,13 +108,9 @@ pub record Halved (o v : Book) (t : ℕ) (x : Act) : Type 0 where
   pub bare : IsOrder order
   pub votes : IsVotedBy (act_of t v.acts) order
 
-some_back : {X Y : Type 0} (f : X → Y) (o : Option X) (y : Y) → option_map f o ≡ Some y → (x : X) × ((o ≡ Some x) × (f x ≡ y))
-some_back f None y e = absurd (cc e)
-some_back f (Some x) y e = (x, (refl, cc e))
-
 pub halved : (b o v : Book) (t : ℕ) (x : Act) → IsOfHalves b o v → act_of t b.acts ≡ Some x → Halved o v t x
 halved b o v t x i e =
-    let q = some_back (act_by (act_of t v.acts)) (act_of t o.acts) x (sym (ap (λ z. act_of t z.acts) i.is ∙ ActWithVotes.found_by v.acts t o.acts) ∙ e) in
+    let q = pair_mapped (act_by (act_of t v.acts)) (act_of t o.acts) x (sym (ap (λ z. act_of t z.acts) i.is ∙ ActWithVotes.found_by v.acts t o.acts) ∙ e) in
     let d = all_found IsOrder (λ x. x.tid == t) o.acts q.0 i.fits.bare q.1.0 in
     let u = all_found (λ x. IsVotedBy (act_of x.tid v.acts) x) (λ x. x.tid == t) o.acts q.0 i.fits.voted q.1.0 in
     record { order = q.0; found = q.1.0; is = q.1.1; bare = d.0; votes = subst (λ n. IsVotedBy (act_of n v.acts) q.0) (eqb-true q.0.tid t d.1) u.0 }
@@ -179,7 +172,7 @@ pub meets : {C : Type 0} (w : Fixed C) (Of : Tx → C → Type 0) (finish : C �
 unfolding conditions
 meets w Of finish (Admit t) s h ok g o v i =
     let e : act_of t s.book.acts ≡ None = undrawn s h t g.acts (omega (arith, eqb-true t s.ring.next_tid ok.0)) in
-    let f : act_of t o.acts ≡ None = none_back (act_by (act_of t v.acts)) (act_of t o.acts) (sym (ap (λ z. act_of t z.acts) i.is ∙ ActWithVotes.found_by v.acts t o.acts) ∙ e) in
+    let f : act_of t o.acts ≡ None = none_mapped (act_by (act_of t v.acts)) (act_of t o.acts) (sym (ap (λ z. act_of t z.acts) i.is ∙ ActWithVotes.found_by v.acts t o.acts) ∙ e) in
     (f, unknown o v t i.fits f)
 meets w Of finish (Ask t a) s h ok g o v i =
     let x = one_is (λ x. not (is_doomed x.status)) (act_of t s.book.acts) ok.1.0 in

@@ -10,6 +10,7 @@ use Rattle.protocol.specs.OnBook as book
 use Rattle.protocol.specs.BookParts.{act_by, place_by, joined_by, status_by, not_voted}
 use Rattle.protocol_laws.specs.OneWay.{actors_of}
 use Rattle.protocol_laws.proofs.first.Lists.{weaker}
+use Rattle.protocol_laws.proofs.machine.EntriesKept.{mark_actor}
 use Rattle.protocol_theorems.proofs.halves.ActWithVotes.{cons_eq, map_twice, place_actor}
 
 -- ---- who is found
@@ -21,10 +22,6 @@ joined_actor_is n q (p ∷ ps) e = by (p.actor == n) refl e (joined_actor_is n q
     by : (b : Bool) → (p.actor == n) ≡ b → (if b then Some p else find (λ z. z.actor == n) ps) ≡ Some q → (find (λ z. z.actor == n) ps ≡ Some q → q.actor ≡ n) → q.actor ≡ n
     by true f e k = let i : p ≡ q = cc e in ap (λ z. z.actor) (sym i) ∙ eqb-true p.actor n f
     by false f e k = k e
-
-mark_actor : (b : Bool) (f : Joined → Joined) (p : Joined) → ((q : Joined) → (f q).actor ≡ q.actor) → (book.mark_if b f p).actor ≡ p.actor
-mark_actor true f p i = i p
-mark_actor false f p i = refl
 
 -- in marked places
 pub found_marked : (a n : ℕ) (f : Joined → Joined) → ((q : Joined) → (f q).actor ≡ q.actor) → (qs : List Joined)

@@ -44,7 +44,7 @@ filter_sorted p (d ∷ ds) r = by (p d) refl r (filter_sorted p ds)
 
 -- ---- what holds of each
 
-all_put : (P : Done → Type 0) (d : Done) (xs : List Done) → P d → AllByRecursion P xs → AllByRecursion P (put_by_place d xs)
+pub all_put : (P : Done → Type 0) (d : Done) (xs : List Done) → P d → AllByRecursion P xs → AllByRecursion P (put_by_place d xs)
 all_put P d [] h k = (h, tt)
 all_put P d (x ∷ xs) h k = by (is_place_below d.place x.place) (all_put P d xs h k.1)
   where

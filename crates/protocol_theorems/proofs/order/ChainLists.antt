@@ -15,6 +15,7 @@ use Rattle.protocol_theorems.specs.Order.{Shuffled, Put}
 use Rattle.protocol_theorems.specs.Placed.{is_placed, PlacedOnce, InOrderOf, has_done, is_done_at, is_other_at, DoneFront, walk, ChainIs}
 use Rattle.protocol_laws.proofs.machine.TrackLists.{is_who_true, is_who_sym, keys_without, keys_staying, key_completed}
 use Rattle.protocol_laws.proofs.first.Lists.{all_join, weaker, any_front, any_join, filter_join, join_assoc, join_nil}
+pub use Rattle.protocol_laws.proofs.machine.TrackLists.{among_completed}
 
 -- ---- tests over lists
 
@@ -32,7 +33,7 @@ any_filtered p (x ∷ xs) h = by (p x) h (any_filtered p xs)
 
 -- ---- keys
 
-in_order_in : (who : Who) (ys : List Who) (ks : List Key) → InOrderOf ys ks → is_key_among who ks ≡ true → is_placed who ys ≡ true
+pub in_order_in : (who : Who) (ys : List Who) (ks : List Key) → InOrderOf ys ks → is_key_among who ks ≡ true → is_placed who ys ≡ true
 in_order_in who [] [] h e = e
 in_order_in who [] (k ∷ ks) h e = absurd h
 in_order_in who (y ∷ ys) [] h e = absurd (true≢false (sym e))
@@ -101,10 +102,6 @@ among_staying cs who (k ∷ ks) e = by (is_cut cs k.who) e (among_staying cs who
     by : (b : Bool) → is_key_among who (if b then [] else k ∷ keys_staying cs ks) ≡ true → (is_key_among who (keys_staying cs ks) ≡ true → is_key_among who ks ≡ true) → (is_who k.who who || is_key_among who ks) ≡ true
     by true e g = absurd (true≢false (sym e))
     by false e g = elim (or_cases (is_who k.who who) (is_key_among who (keys_staying cs ks)) e) [ inl q ↦ or_left (is_who k.who who) _ q | inr q ↦ or_right (is_who k.who who) _ (g q) ]
-
-pub among_completed : (j : ℕ) (who : Who) (ks : List Key) → is_key_among who (map (key_completed j) ks) ≡ is_key_among who ks
-among_completed j who [] = refl
-among_completed j who (k ∷ ks) = ap (λ z. is_who k.who who || z) (among_completed j who ks)
 
 -- ---- fewer stand there
 
@@ -237,7 +234,7 @@ front_kept f who (y ∷ ys) (x ∷ xs) o (inr i) k e = (λ v w. absurd (true≢f
 has_more : (ds new : List Done) (who : Who) → has_done ds who ≡ true → has_done (ds ++ new) who ≡ true
 has_more ds new who e = any_front (λ d. is_who who d.who) ds new e
 
-kept_grows : (kept more : List Who) (who : Who) → is_kept who kept ≡ true → is_kept who (kept ++ more) ≡ true
+pub kept_grows : (kept more : List Who) (who : Who) → is_kept who kept ≡ true → is_kept who (kept ++ more) ≡ true
 kept_grows kept more who e = any_front (λ y. is_who y who) kept more e
 
 over_grows : (kept more : List Who) (ds new : List Done) (y : Who) → (is_kept y kept || has_done ds y) ≡ true → (is_kept y (kept ++ more) || has_done (ds ++ new) y) ≡ true

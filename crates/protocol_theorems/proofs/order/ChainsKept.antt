@@ -34,7 +34,7 @@ use Rattle.protocol_theorems.proofs.order.NamesKept.{Named, IsNamed}
 use Rattle.protocol_theorems.proofs.order.RunsBefore.{lives, act_was}
 use Rattle.protocol_theorems.proofs.order.SlicesKept.{LiveStay, stays_ahead, finishes_other}
 use Rattle.protocol_theorems.proofs.order.ChainLists as lists
-use Rattle.protocol_theorems.proofs.order.ChainLists.{AheadKept, OfIt, CommitsFor, Came, NotCame, NotPlaced}
+use Rattle.protocol_theorems.proofs.order.ChainLists.{AheadKept, OfIt, CommitsFor, Came, NotCame, NotPlaced, kept_grows}
 
 -- ---- who committed
 
@@ -74,12 +74,8 @@ pub no_done : (who : Who) (P : Who → Type 0) (ds : List Done) → (P who → �
 no_done who P [] n h = refl
 no_done who P (d ∷ ds) n h = or_from (is_who who d.who) (has_done ds who) (false_from_ne_true (is_who who d.who) (λ q. n (subst P (sym (TrackLists.is_who_true who d.who q)) h.0))) (no_done who P ds n h.1)
 
-kept_more : (kept more : List Who) (y : Who) → is_kept y kept ≡ true → is_kept y (kept ++ more) ≡ true
-kept_more [] more y e = absurd (true≢false (sym e))
-kept_more (z ∷ zs) more y e = elim (or_cases (is_who z y) (is_kept y zs) e) [ inl q ↦ or_left (is_who z y) _ q | inr q ↦ or_right (is_who z y) _ (kept_more zs more y q) ]
-
 over_more : (next next' : ℕ) (acts acts' : List Act) (kept more : List Who) (y : Who) → next ≤ next' → ((t : ℕ) → t < next → holds lives (act_of t acts') ≡ true → holds lives (act_of t acts) ≡ true) → IsOver next acts kept y → IsOver next' acts' (kept ++ more) y
-over_more next next' acts acts' kept more (OfBatch k) l f h = kept_more kept more (OfBatch k) h
+over_more next next' acts acts' kept more (OfBatch k) l f h = kept_grows kept more (OfBatch k) h
 over_more next next' acts acts' kept more (OfAct t) l f h = (omega (arith, l, h.0), false_from_ne_true (holds lives (act_of t acts')) (λ q. true≢false (sym (f t h.0 q) ∙ h.1)))
 
 over_same : (next next' : ℕ) (acts acts' : List Act) (kept : List Who) (y : Who) → next ≤ next' → ((t : ℕ) → t < next → holds lives (act_of t acts') ≡ true → holds lives (act_of t acts) ≡ true) → IsOver next acts kept y → IsOver next' acts' kept y

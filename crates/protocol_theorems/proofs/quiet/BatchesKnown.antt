@@ -6,7 +6,7 @@ use Rattle.std.proofs.lemmas.List.{length-replicate}
 use Rattle.std.proofs.lemmas.Bool.{and_parts, or_cases, true≢false, eqb-true, eq-eqb, cases_Bool}
 use Rattle.snap_base.specs.declared.transactions.TxResult.{TxResult}
 use Rattle.protocol.specs.Rivals.{Lock}
-use Rattle.protocol.specs.Fixed.{Fixed, IsText, IsTxOf, Next, Go, Ended, tx_at, no_tx, is_pact, root, declared}
+use Rattle.protocol.specs.Fixed.{Fixed, IsText, Next, Go, Ended, tx_at, is_pact, root, declared}
 use Rattle.protocol.specs.Records.{BatchComplete, BatchDone, is_info, is_complete, is_commit}
 use Rattle.protocol.specs.Parts.{Batch, Declared, Stage, Formed, Committing, Settled, PlacedBatch, SubBatch, Cascade, Entry, BatchEntry, ActEntry, Outcome, Machine}
 use Rattle.protocol.specs.Events.{Event, Submit, Form, Arrive, Ask, Take, Run, Send, End, Close, Complete, Note, Commit, Settle, Abort, Rollback, Finish, Trim}
@@ -24,9 +24,10 @@ use Rattle.protocol_laws.proofs.first.Times
 use Rattle.protocol_laws.proofs.machine.MarksKept.{found_bid, found_mapped, found_more}
 use Rattle.protocol_laws.proofs.machine.TracksKept.{held}
 use Rattle.protocol_theorems.proofs.quiet.ActsKnown.{IsIn, stays, there_now, one_of, in_logs}
-use Rattle.protocol_laws.proofs.first.Lists.{all_drop, all_filter, all_get, all_join, all_map, any_take, weaker}
+use Rattle.protocol_laws.proofs.first.Lists.{all_drop, all_filter, all_join, all_map, any_take, weaker}
 use Rattle.protocol_laws.proofs.first.Statuses.{committing_not_formed, if_bid}
 use Rattle.protocol_laws.proofs.first.EpochsKept.{below_all}
+use Rattle.protocol_laws.proofs.machine.TrailsKept.{tx_is}
 
 -- ---- each batch that is found
 
@@ -145,9 +146,6 @@ waits_opened w = record { lasts = length-replicate (length w.text.opening.states
     none (suc n) (suc c) = none n c
 
 -- ---- a new batch
-
-tx_is : {C : Type 0} (w : Fixed C) → IsText w.text → 1 ≤ length w.text.opening.states → (n : ℕ) → IsTxOf (length w.text.opening.states) (tx_at w.text n)
-tx_is w v l n = all_get (IsTxOf (length w.text.opening.states)) w.text.txs n no_tx (record { root_exists = l; declared_exist = tt; declares_root = λ e. absurd (true≢false (sym e)) }) v.txs
 
 pub times_filter : (a : ℕ) (p : ℕ → Bool) (xs : List ℕ) → times a (filter p xs) ≤ times a xs
 times_filter a p [] = omega arith

@@ -1,5 +1,5 @@
 -- What an event that makes something new finds.
-use Rattle.std.specs.Prelude.{◌≡◌, refl, ℕ, zero, suc, ◌+◌, ◌<◌, ◌≤◌, ◌==◌, Bool, true, false, not, ◌&&◌, ◌||◌, if◌then◌else◌, Option, Some, None, List, [], ◌∷◌, ◌++◌, length, map, filter, find}
+use Rattle.std.specs.Prelude.{◌≡◌, refl, ℕ, zero, suc, ◌+◌, ◌<◌, ◌≤◌, ◌==◌, Bool, true, false, not, ◌&&◌, ◌||◌, if◌then◌else◌, Option, Some, None, List, [], ◌∷◌, ◌++◌, length, map, find}
 use Rattle.std.specs.List.{list_any}
 use Rattle.std.proofs.Common.{arith, sym, ap, ◌∙◌}
 use Rattle.std.proofs.lemmas.Bool.{true≢false, and_parts, eqb-true, not-true}
@@ -28,6 +28,7 @@ use Rattle.protocol_laws.proofs.machine.TurnsKept.{one_is}
 use Rattle.protocol_theorems.proofs.quiet.ControlsHeld.{outbox_in}
 use Rattle.protocol_theorems.proofs.quiet.QuietEasy.{found_at}
 use Rattle.protocol_theorems.proofs.quiet.QuietKnown as known
+use Rattle.protocol_theorems.proofs.quiet.BatchesKnown.{times_filter}
 use Rattle.protocol_laws.proofs.first.Lists.{all_found, all_unmapped}
 
 -- ---- numbers below another
@@ -43,14 +44,6 @@ below_times n (suc m) =
     by : (v : Bool) → (m == n) ≡ v → (times n (below m) ≤ 1) × (m ≤ n → times n (below m) ≡ 0) → times n (below m ++ m ∷ []) ≡ times n (below m) + times n (m ∷ []) → times n (m ∷ []) ≡ one_if (m == n) + times n [] → times n (below m ++ m ∷ []) ≤ 1
     by true e r a b = omega (arith, a, b, ap one_if e, r.1 (omega (arith, eqb-true m n e)))
     by false e r a b = omega (arith, a, b, ap one_if e, r.0)
-
-fewer : (n : ℕ) (p : ℕ → Bool) (xs : List ℕ) → times n (filter p xs) ≤ times n xs
-fewer n p [] = omega arith
-fewer n p (x ∷ xs) = by (p x) (fewer n p xs)
-  where
-    by : (b : Bool) → times n (filter p xs) ≤ times n xs → times n (if b then x ∷ filter p xs else filter p xs) ≤ times n (x ∷ xs)
-    by true h = omega (arith, h, Times.times_cons n x xs, Times.times_cons n x (filter p xs))
-    by false h = omega (arith, h, Times.times_cons n x xs)
 
 -- ---- who is not there
 
@@ -89,7 +82,7 @@ finds_room {C} w (Form k) s ok c p g t low bids = (
       let f = all_found (NamesItsPlace s) (λ m. (m.bid == k) && (m.actor == a)) s.post.subs m p.subs e in
       omega (arith, f.0.formed, eqb-true m.bid k (and_parts (m.bid == k) (m.actor == a) f.1).0, eqb-true k s.ring.next_bid ok.0)),
   (
-    λ n. omega (arith, fewer n (λ a. list_any (declares w.text a) (next_pacts w.text s.ring)) (below (length s.ring.lasts)), (below_times n (length s.ring.lasts)).0),
+    λ n. omega (arith, times_filter n (λ a. list_any (declares w.text a) (next_pacts w.text s.ring)) (below (length s.ring.lasts)), (below_times n (length s.ring.lasts)).0),
     λ u l. no_control u s.post.controls (omega (arith, in_post u s, c.drawn u l)),
   ),
 )

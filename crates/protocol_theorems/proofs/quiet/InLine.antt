@@ -35,7 +35,7 @@ use Rattle.protocol_laws.proofs.machine.ActsKept.{Acts}
 use Rattle.protocol_laws.proofs.machine.EntriesKept.{Opened, open_at}
 use Rattle.protocol_theorems.proofs.quiet.JoinsKept as joins
 use Rattle.protocol_laws.proofs.machine.AllGood.{AllGood}
-use Rattle.protocol_theorems.proofs.quiet.SubPlaces.{batches_join}
+use Rattle.protocol_laws.proofs.first.CellEpochs.{on_append}
 
 -- ---- no ACT is ahead of the batch
 
@@ -230,7 +230,7 @@ full_arrive f cs k [] None m h = tt
 full_arrive f cs k [] (Some x) m h = tt
 full_arrive f cs k (BatchEntry b ∷ es) o m h = full_arrive f cs k es o m h
 full_arrive f cs k (ActEntry x ∷ es) o m h = (
-  (λ j i n. elim (among_join j (batches_on es) (batches_on (cell.batch_entries k o)) (subst (λ z. is_among j z ≡ true) (batches_join es (cell.batch_entries k o)) i)) [
+  (λ j i n. elim (among_join j (batches_on es) (batches_on (cell.batch_entries k o)) (subst (λ z. is_among j z ≡ true) (on_append es (cell.batch_entries k o)) i)) [
     | inl q ↦ h.0 j q n
     | inr q ↦ subst (λ z. is_among z (f x.tid) ≡ true) (only o q) (m x.tid (or_left (x.tid == x.tid) _ (eq-eqb x.tid x.tid refl)))
   ]),
@@ -245,7 +245,7 @@ full_ask : (f : ℕ → List ℕ) (cs : List Cascade) (t : Lock) (o : Option ℕ
 full_ask f cs t None [] h = ((λ k i n. absurd (true≢false (sym i))), tt)
 full_ask f cs t (Some x) [] h = tt
 full_ask f cs t o (BatchEntry b ∷ es) h = full_ask f cs t o es h
-full_ask f cs t o (ActEntry x ∷ es) h = ((λ k i n. h.0 k (subst (λ z. is_among k z ≡ true) (batches_join es (cell.act_entries t o) ∙ (ap (λ z. batches_on es ++ z) (none o) ∙ append-nil (batches_on es))) i) n), full_ask f cs t o es h.1)
+full_ask f cs t o (ActEntry x ∷ es) h = ((λ k i n. h.0 k (subst (λ z. is_among k z ≡ true) (on_append es (cell.act_entries t o) ∙ (ap (λ z. batches_on es ++ z) (none o) ∙ append-nil (batches_on es))) i) n), full_ask f cs t o es h.1)
   where
     none : (o : Option ℕ) → batches_on (cell.act_entries t o) ≡ []
     none None = refl

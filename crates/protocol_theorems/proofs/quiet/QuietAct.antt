@@ -6,7 +6,9 @@ use Rattle.std.proofs.Common.{arith, sym, ap, subst, inl, inr, ◌∙◌}
 use Rattle.std.proofs.lemmas.Bool.{and_parts, or_cases, true≢false, eqb-true, eq-eqb, le-leb, cases_Bool, not-true}
 use Rattle.snap_base.specs.declared.transactions.TxResult.{TxResult}
 use Rattle.snap_base.specs.declared.transactions.TxResult.TheVariants.{Value, Fail}
+use Rattle.snap_base.proofs.Lists.{each_found}
 use Rattle.protocol_laws.proofs.first.Lists.{all_join, join_assoc}
+use Rattle.protocol_laws.proofs.machine.TurnsKept.{one_is}
 use Rattle.protocol.specs.Rivals.{Lock}
 use Rattle.protocol.specs.Fixed.{Fixed, base}
 use Rattle.protocol.specs.Records.{is_prepare}
@@ -18,7 +20,7 @@ use Rattle.protocol.specs.Effects.{cell_at, log_at, no_cell}
 use Rattle.protocol.specs.Runs.{IsQuiet}
 use Rattle.protocol_theorems.specs.Quiet.{Orderly, IsLiveBatch, ControlIsAt, is_waiting_act, EntriesTell}
 use Rattle.protocol_theorems.specs.Waits.{IsPending, is_ahead, is_on_schedule, HasEndedAt, IsKeptBack, Waits, WaitsFor}
-use Rattle.protocol_theorems.proofs.quiet.QuietEasy.{passes, passed, there, all_at, list_all_of, false_not, durable, up_to_date, no_outcome, all_left, not_decided}
+use Rattle.protocol_theorems.proofs.quiet.QuietEasy.{passes, there, list_all_of, false_not, durable, up_to_date, no_outcome, all_left, not_decided}
 use Rattle.protocol_theorems.proofs.quiet.QuietBatch.{open_live, act_stands, trimmed_settled}
 
 -- it is neither doomed nor decided nor sealed
@@ -39,7 +41,7 @@ is_live w s t y q o e l d = by y.status refl
 low : {C : Type 0} (w : Fixed C) (s : Machine C) (t : ℕ) (y : Act) → IsQuiet w s → Orderly w s → (IsLiveBatch s y.m → ⊥) → act_of t s.book.acts ≡ Some y → is_doomed y.status ≡ false → y.m ≤ max s.desk.settled (base w.text)
 low w s t y q o l e d = elim (o.acts.number t y e d) [
   | inl h ↦ omega (arith, h)
-  | inr h ↦ let b = passed (λ b. not b.aborted) (batch_of y.m s.desk.batches) h in by b.0 b.1 b.2 (list_all (λ p. p.trimmed) b.0.places) refl
+  | inr h ↦ let b = one_is (λ b. not b.aborted) (batch_of y.m s.desk.batches) h in by b.0 b.1 b.2 (list_all (λ p. p.trimmed) b.0.places) refl
 ]
   where
     by : (b : Batch) → batch_of y.m s.desk.batches ≡ Some b → not b.aborted ≡ true → (z : Bool) → list_all (λ p. p.trimmed) b.places ≡ z → y.m ≤ max s.desk.settled (base w.text)
@@ -63,11 +65,11 @@ no_result w s t y r q o l e a d i = by r i
       where
         vouched : list_all (λ p. p.vouched) y.places ≡ true
         vouched = list_all_of (λ p. p.vouched) y.places (λ n p g bad.
-            let j : joined_of p.actor y ≡ Some p = all_at (λ p. joined_of p.actor y ≡ Some p) y.places n p g (o.found.joined t y e) in
+            let j : joined_of p.actor y ≡ Some p = each_found (λ p. joined_of p.actor y ≡ Some p) y.places n p g (o.found.joined t y e) in
             elim (cases_Bool p.prepared) [
               | inl c ↦ q (Vouch t p.actor) (
                 passes (λ x. is_live_act x && (not (is_doomed x.status) && holds (λ p. p.prepared && not p.vouched) (joined_of p.actor x))) (act_of t s.book.acts) y e (rw (a, d) (passes (λ p. p.prepared && not p.vouched) (joined_of p.actor y) p j (rw (c, bad) refl))),
-                (durable w s q o.written.logs o.some_logs p.actor (is_prepare t p.actor) (all_at (λ p. p.prepared ≡ true → list_any (is_prepare t p.actor) (log_at s (p.actor % w.text.logs)).records ≡ true) y.places n p g (o.written.prepare t y e) c), tt),
+                (durable w s q o.written.logs o.some_logs p.actor (is_prepare t p.actor) (each_found (λ p. p.prepared ≡ true → list_any (is_prepare t p.actor) (log_at s (p.actor % w.text.logs)).records ≡ true) y.places n p g (o.written.prepare t y e) c), tt),
               )
               | inr c ↦ q (Prepare t p.actor) (passes (λ x. is_value x.result && not (is_doomed x.status)) (act_of t s.book.acts) y e (rw (i, d) refl), (passes (λ x. holds (λ p. not p.prepared) (joined_of p.actor x)) (act_of t s.book.acts) y e (passes (λ p. not p.prepared) (joined_of p.actor y) p j (false_not p.prepared c)), tt))
             ])

@@ -5,6 +5,7 @@ use Rattle.std.proofs.Common.{arith, sym, ap, subst, inl, inr, ◌∙◌}
 use Rattle.std.proofs.lemmas.Bool.{and_parts, or_cases, true≢false, eqb-true, eq-eqb, le-leb, cases_Bool, cases_lt, not-true}
 use Rattle.snap_base.specs.declared.transactions.TxResult.{TxResult}
 use Rattle.snap_base.specs.declared.transactions.TxResult.TheVariants.{Value, Fail}
+use Rattle.snap_base.proofs.Lists.{each_found}
 use Rattle.protocol.specs.Fixed.{Fixed}
 use Rattle.protocol.specs.Records.{is_info, is_complete}
 use Rattle.protocol.specs.Parts.{Act, Batch, Declared, Pact, Stage, Formed, Committing, Settled, SubBatch, PlacedBatch, Slot, Who, OfBatch, OfAct, Entry, BatchEntry, ActEntry, Machine}
@@ -14,17 +15,18 @@ use Rattle.protocol.specs.Conditions.{conditions, epoch}
 use Rattle.protocol.specs.Effects.{cell_at, log_at, no_cell}
 use Rattle.protocol.specs.Runs.{IsQuiet}
 use Rattle.protocol_laws.specs.FromDesk.{is_pact_of}
+use Rattle.protocol_laws.proofs.machine.TurnsKept.{one_is}
 use Rattle.protocol_theorems.specs.Quiet.{Orderly, IsLiveBatch, ControlIsAt, is_waiting_act, BatchesRise}
 use Rattle.protocol_theorems.specs.Waits.{IsPending, is_ahead, StandsAhead, IsOpenBatch, WaitsFor}
-use Rattle.protocol_theorems.proofs.quiet.QuietEasy.{passes, passed, there, all_at, any_at, all_in, list_all_of, found_at, false_not, durable, up_to_date, no_outcome, no_aborted_sub, has_left, not_committing, settled_is_trimmed}
+use Rattle.protocol_theorems.proofs.quiet.QuietEasy.{passes, there, any_at, all_in, list_all_of, found_at, false_not, durable, up_to_date, no_outcome, no_aborted_sub, has_left, not_committing, settled_is_trimmed}
 
 -- ---- who is on a schedule is not over
 
 -- a batch that is not trimmed somewhere is live
 pub open_live : {C : Type 0} (w : Fixed C) (s : Machine C) → Orderly w s → (k a : ℕ) → is_aborted k s.book.cascades ≡ false → holds (λ b. holds (λ p. not p.trimmed) (declared_of a b)) (batch_of k s.desk.batches) ≡ true → IsLiveBatch s k
 open_live w s o k a n h =
-    let b = passed (λ b. holds (λ p. not p.trimmed) (declared_of a b)) (batch_of k s.desk.batches) h in
-    let p = passed (λ p. not p.trimmed) (declared_of a b.0) b.2 in
+    let b = one_is (λ b. holds (λ p. not p.trimmed) (declared_of a b)) (batch_of k s.desk.batches) h in
+    let p = one_is (λ p. not p.trimmed) (declared_of a b.0) b.2 in
     let i = found_at (λ p. p.actor == a) b.0.places p.0 p.1 in
     passes is_live_batch (batch_of k s.desk.batches) b.0 b.1 (rw (o.batches.marked k b.0 b.1 ∙ n) (by (list_all (λ p. p.trimmed) b.0.places) (λ e. all_in (λ p. p.trimmed) b.0.places i.0 p.0 i.1 e) p.2))
   where
@@ -35,8 +37,8 @@ open_live w s o k a n h =
 -- an ACT on a schedule still has to do something
 pub act_stands : {C : Type 0} (w : Fixed C) (s : Machine C) → IsQuiet w s → Orderly w s → (t a : ℕ) → has_act t (cell_at s a).entries ≡ true → (x : Act) × (act_of t s.book.acts ≡ Some x) × (is_waiting_act x ≡ true)
 act_stands w s q o t a h =
-    let x = passed (λ x. holds (λ p. not p.finished) (joined_of a x)) (act_of t s.book.acts) (o.acts.stands t a h) in
-    let p = passed (λ p. not p.finished) (joined_of a x.0) x.2 in
+    let x = one_is (λ x. holds (λ p. not p.finished) (joined_of a x)) (act_of t s.book.acts) (o.acts.stands t a h) in
+    let p = one_is (λ p. not p.finished) (joined_of a x.0) x.2 in
     let i = found_at (λ p. p.actor == a) x.0.places p.0 p.1 in
     let d : is_doomed x.0.status ≡ false = by (is_doomed x.0.status) (λ e. has_left w s q t a x.0 p.0 x.1 (rw e refl) p.1) p.2 in
     (x.0, x.1, live x.0 d (by (list_all (λ p. p.finished) x.0.places) (λ e. all_in (λ p. p.finished) x.0.places i.0 p.0 i.1 e) p.2))
@@ -76,7 +78,7 @@ next_to_commit w s k o l = list_all_of (λ b. nat_le k b.bid || (b.aborted || is
   where
     one : (i : ℕ) (b : Batch) → slice_get s.desk.batches i ≡ Some b → (nat_le k b.bid || (b.aborted || is_settled b.stage)) ≡ false → ⊥
     one i b g n =
-        let e = all_at (λ b. batch_of b.bid s.desk.batches ≡ Some b) s.desk.batches i b g o.found.batches in
+        let e = each_found (λ b. batch_of b.bid s.desk.batches ≡ Some b) s.desk.batches i b g o.found.batches in
         by e (nat_le k b.bid) b.aborted refl refl n (list_all (λ p. p.trimmed) b.places) refl
       where
         by : batch_of b.bid s.desk.batches ≡ Some b → (x y : Bool) → nat_le k b.bid ≡ x → b.aborted ≡ y → (x || (y || is_settled b.stage)) ≡ false → (z : Bool) → list_all (λ p. p.trimmed) b.places ≡ z → ⊥
@@ -145,11 +147,11 @@ not_on_way w s k a b q o l r e p h = by (sub_of k a s.post.subs) refl h
 stands_first : {C : Type 0} (w : Fixed C) (s : Machine C) (k a : ℕ) (b : Batch) → IsQuiet w s → Orderly w s → IsFree s k → batch_of k s.desk.batches ≡ Some b → is_open b ≡ true → (p : Declared) → declared_of a b ≡ Some p → (a < length s.cells) × IsFirst k a s
 stands_first w s k a b q o l e f p d =
     let i = found_at (λ p. p.actor == a) b.places p d in
-    let g = all_at (λ p. (declared_of p.actor b ≡ Some p) × (p.actor < length s.cells)) b.places i.0 p i.1 (o.found.declared k b e) in
+    let g = each_found (λ p. (declared_of p.actor b ≡ Some p) × (p.actor < length s.cells)) b.places i.0 p i.1 (o.found.declared k b e) in
     let own : p.actor ≡ a = at b.places p d in
     let r : a < length s.cells = subst (λ z. z < length s.cells) own g.1 in
     let parts = and_parts (is_formed b.stage) (not b.aborted) f in
-    let unfit : not p.trimmed ≡ true = untrimmed p.trimmed (all_at (λ p. p.trimmed ≡ true → is_settled b.stage ≡ true) b.places i.0 p i.1 (o.batches.trimmed k b e)) b.stage refl parts.0 in
+    let unfit : not p.trimmed ≡ true = untrimmed p.trimmed (each_found (λ p. p.trimmed ≡ true → is_settled b.stage ≡ true) b.places i.0 p i.1 (o.batches.trimmed k b e)) b.stage refl parts.0 in
     let fresh : is_aborted k s.book.cascades ≡ false = sym (o.batches.marked k b e) ∙ not-true b.aborted parts.1 in (
       r,
       elim (o.batches.placed k a fresh (passes (λ b. holds (λ p. not p.trimmed) (declared_of a b)) (batch_of k s.desk.batches) b e (passes (λ p. not p.trimmed) (declared_of a b) p d unfit))) [
@@ -197,7 +199,7 @@ one_result {C} w s k t b q o l e f p before none =
 
     by : (a : ℕ) → ControlIsAt t a s → ⊥
     by a h =
-        let d = passed (λ b. is_some (declared_of a b)) (batch_of k s.desk.batches) (o.controls.declared t k a p fresh h) in
+        let d = one_is (λ b. is_some (declared_of a b)) (batch_of k s.desk.batches) (o.controls.declared t k a p fresh h) in
         let i : d.0 ≡ b = same d.0 (d.1) in
         let g = some (declared_of a b) (subst (λ v. is_some (declared_of a v) ≡ true) i d.2) in
         let z = stands_first w s k a b q o l e f g.0 g.1 in
@@ -230,7 +232,7 @@ one_result {C} w s k t b q o l e f p before none =
                 one : (i : ℕ) (y : Slot) → slice_get x.slots i ≡ Some y → (v : Bool) → nat_le t y.tid ≡ v → (v || y.done) ≡ false → ⊥
                 one i y at true v bad = true≢false bad
                 one i y at false v bad = elim (cases_lt y.tid t) [
-                  | inl m ↦ true≢false (sym (closed w s a x es q r g i y at (before y.tid m (subst (λ z. is_pact_of y.tid z s.desk.batches ≡ true) j (all_at (λ y. is_pact_of y.tid x.bid s.desk.batches ≡ true) x.slots i y at (o.batches.slots a x es g))))) ∙ bad)
+                  | inl m ↦ true≢false (sym (closed w s a x es q r g i y at (before y.tid m (subst (λ z. is_pact_of y.tid z s.desk.batches ≡ true) j (each_found (λ y. is_pact_of y.tid x.bid s.desk.batches ≡ true) x.slots i y at (o.batches.slots a x es g))))) ∙ bad)
                   | inr m ↦ true≢false (sym (le-leb t y.tid m) ∙ v)
                 ]
 
@@ -276,12 +278,12 @@ not_open w s k b q o l e f =
 
     ended : list_all (λ p. is_some p.result) b.pacts ≡ true
     ended = list_all_of (λ p. is_some p.result) b.pacts (λ i p g n.
-        let r = all_at (λ p. (pact_result p.tid s.desk.batches ≡ p.result) × (names_pact p.tid b ≡ true)) b.pacts i p g (o.found.results k b e) in
+        let r = each_found (λ p. (pact_result p.tid s.desk.batches ≡ p.result) × (names_pact p.tid b ≡ true)) b.pacts i p g (o.found.results k b e) in
         true≢false (sym (result p.tid (passes (names_pact p.tid) (batch_of k s.desk.batches) b e r.1)) ∙ (ap is_some r.0 ∙ n)))
 
     is_noted : (a : ℕ) (p : Declared) → declared_of a b ≡ Some p → not p.noted ≡ true → a < length s.cells → (x : PlacedBatch) (es : List Entry) → (cell_at s a).entries ≡ BatchEntry x ∷ es → x.bid ≡ k → ⊥
     is_noted a p d n r x es g j =
-        let done : list_all (λ y. y.done) x.slots ≡ true = list_all_of (λ y. y.done) x.slots (λ i y at bad. true≢false (sym (closed w s a x es q r g i y at (result y.tid (subst (λ z. is_pact_of y.tid z s.desk.batches ≡ true) j (all_at (λ y. is_pact_of y.tid x.bid s.desk.batches ≡ true) x.slots i y at (o.batches.slots a x es g))))) ∙ bad)) in
+        let done : list_all (λ y. y.done) x.slots ≡ true = list_all_of (λ y. y.done) x.slots (λ i y at bad. true≢false (sym (closed w s a x es q r g i y at (result y.tid (subst (λ z. is_pact_of y.tid z s.desk.batches ≡ true) j (each_found (λ y. is_pact_of y.tid x.bid s.desk.batches ≡ true) x.slots i y at (o.batches.slots a x es g))))) ∙ bad)) in
         let own : (x.bid == k) ≡ true = eq-eqb x.bid k j in
         elim (cases_Bool x.complete) [
           | inl c ↦ q (Note k a) (passes (λ b. is_open b && holds (λ p. not p.noted) (declared_of a b)) (batch_of k s.desk.batches) b e (rw f (passes (λ p. not p.noted) (declared_of a b) p d n)), (durable w s q o.written.logs o.some_logs a (is_complete k a) (subst (λ z. list_any (is_complete z a) (log_at s (a % w.text.logs)).records ≡ true) j (o.written.complete a x es g c)), tt))
@@ -296,14 +298,14 @@ not_open w s k b q o l e f =
 
     noted : list_all (λ p. p.noted) b.places ≡ true
     noted = list_all_of (λ p. p.noted) b.places (λ i p g n.
-        let d = (all_at (λ p. (declared_of p.actor b ≡ Some p) × (p.actor < length s.cells)) b.places i p g (o.found.declared k b e)).0 in
+        let d = (each_found (λ p. (declared_of p.actor b ≡ Some p) × (p.actor < length s.cells)) b.places i p g (o.found.declared k b e)).0 in
         let z = stands_first w s k p.actor b q o l e f p d in
         is_noted p.actor p d (false_not p.noted n) z.0 z.1.0 z.1.1 z.1.2 z.1.3)
 
 -- A live batch waits for somebody.
 pub no_batch : {C : Type 0} (w : Fixed C) (s : Machine C) (k : ℕ) → IsQuiet w s → Orderly w s → ((y : Who) → WaitsFor s (OfBatch k) y → ⊥) → IsLiveBatch s k → ⊥
 no_batch w s k q o n h =
-    let b = passed is_live_batch (batch_of k s.desk.batches) h in
+    let b = one_is is_live_batch (batch_of k s.desk.batches) h in
     let p = and_parts (not b.0.aborted) (not (list_all (λ p. p.trimmed) b.0.places)) b.2 in
     by b.0 b.1 (not-true b.0.aborted p.0) p.1 b.0.stage refl
   where

@@ -1,8 +1,10 @@
 -- Where no event is allowed: records, epochs, outboxes, messages, marks.
 use Rattle.std.specs.Prelude.{◌≡◌, refl, ℕ, zero, suc, ◌<◌, ◌≤◌, ◌%◌, nat_lt, not, Bool, true, false, ◌&&◌, ◌||◌, if◌then◌else◌, ◌⊎◌, Option, Some, None, is_some, List, [], ◌∷◌, length, find, slice_get, slice_index_or}
-use Rattle.std.specs.List.{AllByRecursion, list_any, list_all}
+use Rattle.std.specs.List.{list_any, list_all}
 use Rattle.std.proofs.Common.{arith, sym, subst, inl, inr, ◌∙◌}
 use Rattle.std.proofs.lemmas.Bool.{and_parts, true≢false, eq-eqb, lt-ltb, cases_Bool, cases_lt}
+use Rattle.std.proofs.lemmas.List.{take_all}
+use Rattle.snap_base.proofs.Lists.{each_found}
 use Rattle.protocol.specs.Fixed.{Fixed, Next, Go, Ended}
 use Rattle.protocol.specs.Records.{LogRecord, is_commit, is_act_commit}
 use Rattle.protocol.specs.Parts.{Act, Joined, Batch, Outcome, Machine}
@@ -12,16 +14,11 @@ use Rattle.protocol.specs.Conditions.{conditions, epoch}
 use Rattle.protocol.specs.Effects.{cell_at, log_at, no_cell, no_log}
 use Rattle.protocol.specs.Runs.{IsQuiet}
 use Rattle.protocol_theorems.specs.Quiet.{Found, Written}
-use Rattle.protocol_laws.proofs.first.Lists.{take_all}
 
 -- ---- tests
 
 pub passes : {X : Type 0} (test : X → Bool) (o : Option X) (x : X) → o ≡ Some x → test x ≡ true → holds test o ≡ true
 passes test o x e h = rw e h
-
-pub passed : {X : Type 0} (test : X → Bool) (o : Option X) → holds test o ≡ true → (x : X) × (o ≡ Some x) × (test x ≡ true)
-passed test None h = absurd (true≢false (sym h))
-passed test (Some x) h = (x, refl, h)
 
 pub there : {X : Type 0} (test : X → Bool) (xs : List X) (i : ℕ) (d : X) → i < length xs → test (slice_index_or xs i d) ≡ true → holds test (slice_get xs i) ≡ true
 there test [] i d l h = absurd (omega (arith, l))
@@ -37,11 +34,6 @@ all_or_one {X} f (x ∷ xs) = by (f x) refl (all_or_one f xs)
     by false e r = inr (x, zero, refl, e)
     by true e (inl h) = inl h
     by true e (inr r) = inr (r.0, suc r.1, r.2, r.3)
-
-pub all_at : {X : Type 0} (P : X → Type 0) (xs : List X) (i : ℕ) (x : X) → slice_get xs i ≡ Some x → AllByRecursion P xs → P x
-all_at P [] i x e h = absurd (cc e)
-all_at P (y ∷ xs) zero x e h = let q : y ≡ x = cc e in subst P q h.0
-all_at P (y ∷ xs) (suc i) x e h = all_at P xs i x e h.1
 
 pub any_at : {X : Type 0} (f : X → Bool) (xs : List X) (i : ℕ) (x : X) → slice_get xs i ≡ Some x → f x ≡ true → list_any f xs ≡ true
 any_at f [] i x e h = absurd (cc e)
@@ -143,7 +135,7 @@ has_left w s q t a x p e d j = elim (cases_Bool p.finished) [
 ]
 
 pub all_left : {C : Type 0} (w : Fixed C) (s : Machine C) → IsQuiet w s → Found w s → (t : ℕ) (x : Act) → act_of t s.book.acts ≡ Some x → (is_doomed x.status || is_sealed x.status) ≡ true → list_all (λ p. p.finished) x.places ≡ true
-all_left w s q f t x e d = list_all_of (λ p. p.finished) x.places (λ i p g n. true≢false (sym (has_left w s q t p.actor x p e d (all_at (λ p. joined_of p.actor x ≡ Some p) x.places i p g (f.joined t x e))) ∙ n))
+all_left w s q f t x e d = list_all_of (λ p. p.finished) x.places (λ i p g n. true≢false (sym (has_left w s q t p.actor x p e d (each_found (λ p. joined_of p.actor x ≡ Some p) x.places i p g (f.joined t x e))) ∙ n))
 
 -- who is doomed is not live
 pub doomed_is_over : {C : Type 0} (w : Fixed C) (s : Machine C) → IsQuiet w s → Found w s → (t : ℕ) (x : Act) → act_of t s.book.acts ≡ Some x → is_doomed x.status ≡ true → is_live_act x ≡ false
@@ -173,4 +165,4 @@ not_committing w s q r l k b e n = elim (cases_Bool (is_committing b.stage)) [
 pub settled_is_trimmed : {C : Type 0} (w : Fixed C) (s : Machine C) → IsQuiet w s → Found w s → (k : ℕ) (b : Batch) → batch_of k s.desk.batches ≡ Some b → b.aborted ≡ false → is_settled b.stage ≡ true → list_all (λ p. p.trimmed) b.places ≡ true
 unfolding conditions
 settled_is_trimmed w s q f k b e n d = list_all_of (λ p. p.trimmed) b.places (λ i p g z.
-    q (Trim k p.actor) (passes (λ b. is_settled b.stage && (not b.aborted && holds (λ x. not x.trimmed) (declared_of p.actor b))) (batch_of k s.desk.batches) b e (rw (d, n) (passes (λ x. not x.trimmed) (declared_of p.actor b) p (all_at (λ p. (declared_of p.actor b ≡ Some p) × (p.actor < length s.cells)) b.places i p g (f.declared k b e)).0 (false_not p.trimmed z))), tt))
+    q (Trim k p.actor) (passes (λ b. is_settled b.stage && (not b.aborted && holds (λ x. not x.trimmed) (declared_of p.actor b))) (batch_of k s.desk.batches) b e (rw (d, n) (passes (λ x. not x.trimmed) (declared_of p.actor b) p (each_found (λ p. (declared_of p.actor b ≡ Some p) × (p.actor < length s.cells)) b.places i p g (f.declared k b e)).0 (false_not p.trimmed z))), tt))

@@ -6,6 +6,7 @@ use Rattle.std.proofs.lemmas.Bool.{and_parts, true≢false, eq-eqb, lt-ltb, case
 use Rattle.snap_base.specs.declared.transactions.TxResult.{TxResult}
 use Rattle.snap_base.specs.declared.transactions.TxResult.TheVariants.{Value, Fail}
 use Rattle.snap_base.specs.declared.verdicts.Place.{Place}
+use Rattle.snap_base.proofs.Lists.{each_found}
 use Rattle.protocol.specs.Fixed.{Fixed}
 use Rattle.protocol.specs.Parts.{Act, Batch, Cascade, Pact, Status, Live, Doomed, Decided, Sealed, Stage, Formed, Committing, Settled, SubBatch, Entry, BatchEntry, ActEntry, Machine}
 use Rattle.protocol.specs.Events.{Submit, Pass, Form, Admit, Reply}
@@ -18,7 +19,7 @@ use Rattle.protocol.specs.Runs.{IsQuiet}
 use Rattle.protocol_theorems.specs.Quiet.{Orderly, Whole, AllAnswered, is_over_batch, is_over_act}
 use Rattle.protocol_laws.proofs.first.Times
 use Rattle.protocol_theorems.proofs.quiet.QuietEasy
-use Rattle.protocol_theorems.proofs.quiet.QuietEasy.{passes, all_at, list_all_of, false_not, synced, up_to_date, no_aborted_sub, all_left, doomed_is_over}
+use Rattle.protocol_theorems.proofs.quiet.QuietEasy.{passes, list_all_of, false_not, synced, up_to_date, no_aborted_sub, all_left, doomed_is_over}
 use Rattle.protocol_theorems.proofs.quiet.QuietBatch.{open_live, act_stands, trimmed_settled}
 use Rattle.protocol_theorems.proofs.quiet.QuietOrder.{no_live_batch, no_waiting_act}
 
@@ -62,10 +63,10 @@ none_pass f (x ∷ xs) h = by (f x) refl (none_pass f xs (λ i. h (suc i)))
     by false e k = k
 
 no_live_batches : {C : Type 0} (w : Fixed C) (s : Machine C) → IsQuiet w s → Orderly w s → count is_live_batch s.desk.batches ≡ 0
-no_live_batches w s q o = none_pass is_live_batch s.desk.batches (λ i b g l. no_live_batch w s q o b.bid (passes is_live_batch (batch_of b.bid s.desk.batches) b (all_at (λ b. batch_of b.bid s.desk.batches ≡ Some b) s.desk.batches i b g o.found.batches) l))
+no_live_batches w s q o = none_pass is_live_batch s.desk.batches (λ i b g l. no_live_batch w s q o b.bid (passes is_live_batch (batch_of b.bid s.desk.batches) b (each_found (λ b. batch_of b.bid s.desk.batches ≡ Some b) s.desk.batches i b g o.found.batches) l))
 
 no_live_acts : {C : Type 0} (w : Fixed C) (s : Machine C) → IsQuiet w s → Orderly w s → count is_live_act s.book.acts ≡ 0
-no_live_acts w s q o = none_pass is_live_act s.book.acts (λ i x g l. not_live w s q o x.tid x (all_at (λ x. act_of x.tid s.book.acts ≡ Some x) s.book.acts i x g o.found.acts) l)
+no_live_acts w s q o = none_pass is_live_act s.book.acts (λ i x g l. not_live w s q o x.tid x (each_found (λ x. act_of x.tid s.book.acts ≡ Some x) s.book.acts i x g o.found.acts) l)
 
 pub idle : {C : Type 0} (w : Fixed C) (s : Machine C) → IsQuiet w s → Orderly w s → Whole w s → is_idle s.ring ≡ true
 unfolding conditions
@@ -168,7 +169,7 @@ pact_has_verdict w s q o v b e = each_at (λ p. is_some (pact_verdict (find (cov
     by i p g None h =
         let n : is_aborted b.bid s.book.cascades ≡ false = elim (cases_Bool (is_aborted b.bid s.book.cascades)) [ inl a ↦ absurd (true≢false (sym (some_cover b.bid s.book.cascades a) ∙ ap is_some h)) | inr a ↦ a ] in
         let t = settled (o.batches.marked b.bid b e ∙ n) in
-        stage p b.stage t (all_at (λ p. is_some p.result ≡ true) b.pacts i p g (v.results b.bid b e t))
+        stage p b.stage t (each_found (λ p. is_some p.result ≡ true) b.pacts i p g (v.results b.bid b e t))
 
 act_has_verdict : {C : Type 0} (w : Fixed C) (s : Machine C) → IsQuiet w s → Orderly w s → Whole w s → (x : Act) → act_of x.tid s.book.acts ≡ Some x → is_some (act_verdict x.status x.m x.result) ≡ true
 act_has_verdict w s q o v x e = by x.status refl (over_act w s q o x.tid x e)
@@ -199,8 +200,8 @@ has_verdict w s q o v n l =
     )
 
     by : (0 < times n (flat (map (λ b. map (λ p. p.tx) b.pacts) s.desk.batches))) ⊎ (times n (flat (map (λ b. map (λ p. p.tx) b.pacts) s.desk.batches)) ≤ 0) → (is_some (verdict_of_pact s.book.cascades n s.desk.batches) ≡ true) ⊎ (is_some (verdict_of_act n s.book.acts) ≡ true)
-    by (inl k) = inl (of_pact s.book.cascades n s.desk.batches (each_at _ s.desk.batches (λ i b g. pact_has_verdict w s q o v b (all_at (λ b. batch_of b.bid s.desk.batches ≡ Some b) s.desk.batches i b g o.found.batches))) (omega (arith, k)))
-    by (inr k) = inr (of_act n s.book.acts (each_at _ s.book.acts (λ i x g. act_has_verdict w s q o v x (all_at (λ x. act_of x.tid s.book.acts ≡ Some x) s.book.acts i x g o.found.acts))) (omega (arith, k, one)))
+    by (inl k) = inl (of_pact s.book.cascades n s.desk.batches (each_at _ s.desk.batches (λ i b g. pact_has_verdict w s q o v b (each_found (λ b. batch_of b.bid s.desk.batches ≡ Some b) s.desk.batches i b g o.found.batches))) (omega (arith, k)))
+    by (inr k) = inr (of_act n s.book.acts (each_at _ s.book.acts (λ i x g. act_has_verdict w s q o v x (each_found (λ x. act_of x.tid s.book.acts ≡ Some x) s.book.acts i x g o.found.acts))) (omega (arith, k, one)))
 
 -- ---- replies
 
@@ -242,8 +243,8 @@ quiet_is_answered w s q o v = record {
   submitted = all_submitted w s q v;
   queues = idle w s q o v;
   replied = all_replied w s q o v;
-  batches = list_all_of is_over_batch s.desk.batches (λ i b g n. true≢false (sym (over_batch w s q o b.bid b (all_at (λ b. batch_of b.bid s.desk.batches ≡ Some b) s.desk.batches i b g o.found.batches)) ∙ n));
-  acts = list_all_of is_over_act s.book.acts (λ i x g n. true≢false (sym (act x (all_at (λ x. act_of x.tid s.book.acts ≡ Some x) s.book.acts i x g o.found.acts)) ∙ n));
+  batches = list_all_of is_over_batch s.desk.batches (λ i b g n. true≢false (sym (over_batch w s q o b.bid b (each_found (λ b. batch_of b.bid s.desk.batches ≡ Some b) s.desk.batches i b g o.found.batches)) ∙ n));
+  acts = list_all_of is_over_act s.book.acts (λ i x g n. true≢false (sym (act x (each_found (λ x. act_of x.tid s.book.acts ≡ Some x) s.book.acts i x g o.found.acts)) ∙ n));
   synced = synced w s q;
   subs = no_subs w s q o;
   outboxes = QuietEasy.empty_outbox w s q;

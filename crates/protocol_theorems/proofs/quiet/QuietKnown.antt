@@ -4,6 +4,7 @@ use Rattle.std.specs.List.{AllByRecursion, list_any}
 use Rattle.std.proofs.Common.{arith, sym, ap, subst, inl, inr, ◌∙◌}
 use Rattle.std.proofs.lemmas.List.{length-replicate}
 use Rattle.std.proofs.lemmas.Bool.{and_parts, true≢false, eqb-true, eq-eqb, ltb-true, le-leb, cases_lt, not-true}
+use Rattle.snap_base.proofs.Lists.{each_found}
 use Rattle.protocol.specs.Fixed.{Fixed}
 use Rattle.protocol.specs.Parts.{Act, Batch, Cascade, Pact, Stage, Formed, Committing, Settled, SubBatch, Cell, Machine}
 use Rattle.protocol.specs.Events.{Event, Submit, Reply}
@@ -20,9 +21,10 @@ use Rattle.protocol_laws.proofs.first.Drawn as drawn
 use Rattle.protocol_laws.proofs.machine.MarksKept.{found_bid}
 use Rattle.protocol_laws.proofs.machine.RunOwed as owes
 use Rattle.protocol_laws.proofs.first.EpochsKept as epochs
-use Rattle.protocol_theorems.proofs.quiet.QuietEasy.{passed, all_at, any_at, found_at}
+use Rattle.protocol_theorems.proofs.quiet.QuietEasy.{any_at, found_at}
 use Rattle.protocol_theorems.proofs.quiet.QuietEnd.{each_at}
 use Rattle.protocol_laws.proofs.machine.ActsFound.{found_tid}
+use Rattle.protocol_laws.proofs.machine.TurnsKept.{one_is}
 use Rattle.protocol_theorems.proofs.sets.AfterSets.{among_all}
 use Rattle.protocol_theorems.proofs.quiet.LeftFalls.{once_most}
 
@@ -118,7 +120,7 @@ pub bid_is : {C : Type 0} (s : Machine C) (k : ℕ) (b : Batch) → batch_of k s
 bid_is s k b e = eqb-true b.bid k (found_bid k b s.desk.batches e)
 
 pub mark : {C : Type 0} (w : Fixed C) (s : Machine C) → BatchesSettleInOrder w s → (k : ℕ) (b : Batch) → batch_of k s.desk.batches ≡ Some b → b.aborted ≡ is_aborted k s.book.cascades
-mark w s g k b e = let i = found_at (λ b. b.bid == k) s.desk.batches b e in all_at (λ b. b.aborted ≡ is_aborted b.bid s.book.cascades) s.desk.batches i.0 b i.1 g.marked ∙ ap (λ z. is_aborted z s.book.cascades) (bid_is s k b e)
+mark w s g k b e = let i = found_at (λ b. b.bid == k) s.desk.batches b e in each_found (λ b. b.aborted ≡ is_aborted b.bid s.book.cascades) s.desk.batches i.0 b i.1 g.marked ∙ ap (λ z. is_aborted z s.book.cascades) (bid_is s k b e)
 
 most : (ns : List ℕ) (i n : ℕ) → slice_get ns i ≡ Some n → n ≤ greatest ns
 most [] i n e = absurd (cc e)
@@ -155,7 +157,7 @@ pub first_most : (k : ℕ) (bs : List Batch) (i : ℕ) (b : Batch) (cs : List Ca
 first_most k bs i b [] e q n h = tt
 first_most k bs i b (c ∷ cs) e q n h = (
   elim (cases_lt k c.first) [
-    | inl l ↦ absurd (true≢false (sym (all_at (λ b. b.bid < c.first → (b.aborted || is_settled b.stage) ≡ true) bs i b e h.0 (omega (arith, q, l))) ∙ n))
+    | inl l ↦ absurd (true≢false (sym (each_found (λ b. b.bid < c.first → (b.aborted || is_settled b.stage) ≡ true) bs i b e h.0 (omega (arith, q, l))) ∙ n))
     | inr l ↦ l
   ],
   first_most k bs i b cs e q n h.1,
@@ -163,13 +165,13 @@ first_most k bs i b (c ∷ cs) e q n h = (
 
 pub present_epoch : {C : Type 0} (w : Fixed C) (s : Machine C) → BatchesSettleInOrder w s → EpochsAgree w s → (k a : ℕ) (m : SubBatch) → sub_of k a s.post.subs ≡ Some m → holds (λ b. is_formed b.stage && not b.aborted) (batch_of k s.desk.batches) ≡ true → m.epoch ≡ epoch s.book
 present_epoch w s g h k a m e f =
-    let b = passed (λ b. is_formed b.stage && not b.aborted) (batch_of k s.desk.batches) f in
+    let b = one_is (λ b. is_formed b.stage && not b.aborted) (batch_of k s.desk.batches) f in
     let p = and_parts (is_formed b.0.stage) (not b.0.aborted) b.2 in
     let i = found_at (λ b. b.bid == k) s.desk.batches b.0 b.1 in
     let n : is_aborted k s.book.cascades ≡ false = sym (mark w s g k b.0 b.1) ∙ not-true b.0.aborted p.1 in
     let first = first_most k s.desk.batches i.0 b.0 s.book.cascades i.1 (bid_is s k b.0 b.1) (open_stage b.0.stage b.0.aborted p.0 (not-true b.0.aborted p.1)) g.below_cascades in
     let j = found_at (λ m. (m.bid == k) && (m.actor == a)) s.post.subs m e in
-    let named = all_at (NamesItsPlace s) s.post.subs j.0 m j.1 h.subs in
+    let named = each_found (NamesItsPlace s) s.post.subs j.0 m j.1 h.subs in
     named.epoch ∙ (ap (λ z. epoch_of z s.book.cascades) (bid_of s.post.subs e) ∙ epochs.epoch_all k s.book.cascades (upto_below k s.book.cascades first n))
   where
     open_stage : (st : Stage) (v : Bool) → is_formed st ≡ true → v ≡ false → (v || is_settled st) ≡ false

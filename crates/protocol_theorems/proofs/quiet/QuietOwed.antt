@@ -5,6 +5,7 @@ use Rattle.std.proofs.Common.{arith, sym, ap, subst, inl, inr, ◌∙◌}
 use Rattle.std.proofs.lemmas.Bool.{true≢false, eqb-true, eq-eqb, or_cases, or_right, and_parts, cases_Bool, cases_lt}
 use Rattle.snap_base.specs.declared.transactions.State.{State}
 use Rattle.snap_base.specs.declared.transactions.Tx.{Tx}
+use Rattle.snap_base.proofs.Options.{somebody}
 use Rattle.protocol.specs.Facts.{Alone}
 use Rattle.protocol.specs.Fixed.{Fixed, Go, base}
 use Rattle.protocol.specs.Parts.{Act, Batch, Pact, PlacedBatch, Status, Live, Doomed, Decided, Sealed, Who, OfBatch, OfAct, Entry, BatchEntry, Cell, Machine}
@@ -46,7 +47,7 @@ use Rattle.protocol_theorems.proofs.quiet.ControlsHeld as counts
 use Rattle.protocol_theorems.proofs.quiet.ControlsHeld.{Whose, Resulted, is_resulted}
 use Rattle.protocol_theorems.proofs.quiet.HasOneKept as ones
 use Rattle.protocol_theorems.proofs.quiet.HasOneKept.{HasOne}
-use Rattle.protocol_laws.proofs.first.Lists.{all_found, some_is}
+use Rattle.protocol_laws.proofs.first.Lists.{all_found}
 
 -- ---- along a run
 
@@ -104,7 +105,7 @@ has_control {C} w Of finish s h t g n l = by (cases_lt 0 (times t (map (λ m. m.
   where
     by : (0 < times t (map (λ m. m.tid) s.post.controls)) ⊎ (times t (map (λ m. m.tid) s.post.controls) ≤ 0) → (0 < times t (flat (map waiting_tids (map (λ c. c.inbox) s.cells)))) ⊎ (times t (flat (map waiting_tids (map (λ c. c.inbox) s.cells))) ≤ 0) → HasControl t s
     by (inl p) q =
-        let m = some_is (control_of t s.post.controls) (some_in t (λ m. m.tid) s.post.controls (omega (arith, p))) in
+        let m = somebody (control_of t s.post.controls) (some_in t (λ m. m.tid) s.post.controls (omega (arith, p))) in
         let f = all_found (λ m. Told w Of finish h m.tid (Go m.to m.control)) (λ m. m.tid == t) s.post.controls m.0 g.good.told.posted m.1 in
         (m.0.to, omega (arith, f.0.of_it.2, n), inl (inl (subst (λ o. holds (λ x. x.to == m.0.to) o ≡ true) (sym m.1) (eq-eqb m.0.to m.0.to refl))))
     by (inr p) (inl q) = let r = in_cell t (λ x. x.tid) (λ c. c.inbox) s.cells (omega (arith, q)) in (r.0, r.1, inl (inr (some_in t (λ x. x.tid) (cell_at s r.0).inbox r.2)))

@@ -1,5 +1,5 @@
 -- How many of each there are, and how far numbers are.
-use Rattle.std.specs.Prelude.{◌≡◌, refl, ℕ, zero, suc, ◌+◌, ◌%◌, ◌<◌, ◌≤◌, ◌==◌, Bool, true, false, not, ◌&&◌, if◌then◌else◌, Some, is_some, List, [], ◌∷◌, ◌++◌, length, take, replicate}
+use Rattle.std.specs.Prelude.{◌≡◌, refl, ℕ, zero, suc, ◌+◌, ◌%◌, ◌<◌, ◌≤◌, ◌==◌, Bool, true, false, ◌&&◌, if◌then◌else◌, Some, is_some, List, [], ◌∷◌, ◌++◌, length, take, replicate}
 use Rattle.std.specs.List.{AllByRecursion}
 use Rattle.std.proofs.Common.{arith, sym, ap, subst, inl, inr, ◌∙◌}
 use Rattle.std.proofs.lemmas.Bool.{true≢false, and_parts, eqb-true}
@@ -8,7 +8,7 @@ use Rattle.std.proofs.Math.Nat.{mod-lt}
 use Rattle.protocol.specs.Fixed.{Fixed, IsText, is_pact, tx_at}
 use Rattle.protocol.specs.Laws.{AfterEveryRun}
 use Rattle.protocol.specs.Parts.{Status, Live, Doomed, Decided, Sealed, Act, Cascade, Machine}
-use Rattle.protocol.specs.Words.{count, is_empty, is_value, is_live_status, is_ordered, act_of}
+use Rattle.protocol.specs.Words.{count, is_value, is_live_status, is_ordered, act_of}
 use Rattle.protocol.specs.Numbers.{one_if}
 use Rattle.protocol.specs.Contents.{NextTid, ActTids}
 use Rattle.protocol.specs.Events.{Event, Submit, Pass, Form, Admit, Abort, Decide}
@@ -30,11 +30,11 @@ use Rattle.protocol_laws.proofs.first.SettlingKept as settling
 use Rattle.protocol_laws.proofs.first.OneWayActs.{acts_went}
 use Rattle.protocol_laws.proofs.first.Times
 use Rattle.protocol_laws.proofs.machine.TurnsKept.{one_is}
-use Rattle.protocol_theorems.proofs.quiet.LeftRing.{joined_most, left_falls}
+use Rattle.protocol_theorems.proofs.quiet.LeftRing.{joined_most, left_falls, some_taken}
 use Rattle.protocol_theorems.proofs.quiet.QuietKnown as known
 use Rattle.protocol_theorems.proofs.quiet.LimitsHold.{count_cons}
-use Rattle.protocol_laws.proofs.machine.QueuedKept.{lasts_length}
 use Rattle.protocol_laws.proofs.first.RangesNamed.{cells_stay}
+use Rattle.protocol_laws.proofs.first.EpochsKept.{length_lasts}
 
 -- ---- the ring
 
@@ -55,11 +55,6 @@ joined_if false c n ps qs = omega (arith, joined_most c n qs)
 length_if : (b : Bool) (c n : ℕ) (qs : List (List ℕ)) → (length (if b then ring.joined_at c n qs else qs) ≡ length qs) × (length (if b then qs else ring.joined_at c n qs) ≡ length qs)
 length_if true c n qs = (Times.length_set qs c (queue qs c ++ n ∷ []), refl)
 length_if false c n qs = (refl, Times.length_set qs c (queue qs c ++ n ∷ []))
-
-pub some_taken : (n : ℕ) (xs : List ℕ) → 1 ≤ n → not (is_empty xs) ≡ true → 1 ≤ length (take n xs)
-some_taken n [] l e = absurd (true≢false (sym e))
-some_taken zero (x ∷ xs) l e = absurd (omega (arith, l))
-some_taken (suc n) (x ∷ xs) l e = omega arith
 
 ring_kept : {C : Type 0} (w : Fixed C) → IsText w.text → (e : Event) (s : Machine C) → IsAllowed w e s → Ringed w s → Ringed w (after w e s)
 unfolding conditions after
@@ -92,7 +87,7 @@ ring_kept w v (Form k) s ok h =
       holder = h.holder;
       pacts = Times.length_set s.ring.pacts s.ring.holder _ ∙ h.pacts;
       acts = h.acts;
-      lasts = lasts_length k (ring.next_actors w.text s.ring) s.ring.lasts ∙ h.lasts;
+      lasts = length_lasts k (ring.next_actors w.text s.ring) s.ring.lasts ∙ h.lasts;
       tids = omega (arith, h.tids, as_many, left_falls s.ring.holder w.text.batch s.ring.pacts ok.1.0);
       bids = omega (arith, h.bids, as_many, some_taken w.text.batch (queue s.ring.pacts s.ring.holder) v.some_batch ok.1.0);
     }

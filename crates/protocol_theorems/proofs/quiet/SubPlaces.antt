@@ -27,6 +27,7 @@ use Rattle.protocol_theorems.proofs.quiet.RowsKept as rows
 use Rattle.protocol_theorems.proofs.quiet.ActsKnown.{one_of}
 use Rattle.protocol_theorems.proofs.quiet.BatchesKnown as known
 use Rattle.protocol_laws.proofs.first.Statuses.{if_bid}
+use Rattle.protocol_laws.proofs.first.CellEpochs.{on_append}
 use Rattle.protocol_theorems.proofs.quiet.LimitsHold.{count_cons}
 
 -- ---- words
@@ -92,18 +93,13 @@ one_most false = omega arith
 
 -- ---- schedules
 
-pub batches_join : (es fs : List Entry) → batches_on (es ++ fs) ≡ batches_on es ++ batches_on fs
-batches_join [] fs = refl
-batches_join (BatchEntry b ∷ es) fs = ap (λ z. b.bid ∷ z) (batches_join es fs)
-batches_join (ActEntry x ∷ es) fs = batches_join es fs
-
 pub acts_only : (t : Lock) (o : Option ℕ) (es : List Entry) → batches_on (es ++ cell.act_entries t o) ≡ batches_on es
-acts_only t None es = batches_join es (cell.act_entries t None) ∙ Rattle.std.proofs.lemmas.List.append-nil (batches_on es)
+acts_only t None es = on_append es (cell.act_entries t None) ∙ Rattle.std.proofs.lemmas.List.append-nil (batches_on es)
 acts_only t (Some x) es = ap batches_on (Rattle.std.proofs.lemmas.List.append-nil es)
 
 pub times_arrived : (j k : ℕ) (es : List Entry) (o : Option SubBatch) → is_some o ≡ true → times j (batches_on (es ++ cell.batch_entries k o)) ≡ times j (batches_on es) + one_if (k == j)
 times_arrived j k es None h = absurd (true≢false (sym h))
-times_arrived j k es (Some m) h = ap (times j) (batches_join es (cell.batch_entries k (Some m))) ∙ omega (arith, Times.times_append j (batches_on es) (k ∷ []), Times.times_cons j k [])
+times_arrived j k es (Some m) h = ap (times j) (on_append es (cell.batch_entries k (Some m))) ∙ omega (arith, Times.times_append j (batches_on es) (k ∷ []), Times.times_cons j k [])
 
 pub times_without : (j k : ℕ) (es : List Entry) → times j (batches_on (filter (λ e. not (is_batch_entry k e)) es)) + (if k == j then times j (batches_on es) else 0) ≡ times j (batches_on es)
 times_without j k [] = by (k == j)

@@ -4,6 +4,7 @@ use Rattle.std.specs.Prelude.{◌≡◌, refl, ℕ, zero, suc, ◌+◌, ◌<◌,
 use Rattle.std.specs.List.{AllByRecursion, list_any}
 use Rattle.std.proofs.Common.{arith, sym, ap, subst, inl, inr, ◌∙◌}
 use Rattle.std.proofs.lemmas.Bool.{eqb-true, eq-eqb, ne_eqb, and_parts, or_cases, true≢false, not-true, cases_lt}
+use Rattle.snap_base.proofs.Lists.{each_found}
 use Rattle.protocol.specs.Fixed.{Fixed}
 use Rattle.protocol.specs.Records.{LogRecord, ActDone, is_complete}
 use Rattle.protocol.specs.Parts.{Act, SubBatch, Declared, Committing, Settled, Stage, Formed, Entry, BatchEntry, ActEntry, Machine}
@@ -22,13 +23,14 @@ use Rattle.protocol_laws.proofs.first.EpochsKept as epochs
 use Rattle.protocol_laws.proofs.first.SettlingKept as settling
 use Rattle.protocol_laws.proofs.machine.TracksKept.{held}
 use Rattle.protocol_theorems.proofs.quiet.RowsKept as rows
-use Rattle.protocol_theorems.proofs.quiet.QuietEasy.{passed, found_at, all_at, all_in}
+use Rattle.protocol_theorems.proofs.quiet.QuietEasy.{found_at, all_in}
 use Rattle.protocol_theorems.proofs.quiet.ActsKnown.{IsIn, one_of}
 use Rattle.protocol_theorems.proofs.quiet.BatchesKnown as known
 use Rattle.protocol_theorems.proofs.quiet.SubPlaces
 use Rattle.protocol_laws.proofs.first.Lists.{any_join}
 use Rattle.protocol_laws.proofs.first.Statuses.{if_bid}
 use Rattle.protocol_laws.proofs.first.OneWay.{bid_went}
+use Rattle.protocol_laws.proofs.machine.TurnsKept.{one_is}
 
 -- ---- records come by Complete alone
 
@@ -184,15 +186,15 @@ stand_opened w k a i = absurd (none w.text.logs (a % w.text.logs) i)
 pub trims : {C : Type 0} (w : Fixed C) (e : Event) (s : Machine C) → IsAllowed w e s → settling.Settling w s → known.AllFit w s → Stand w s → SubPlaces.InOnePlace s → SubPlaces.TrimOwed e s
 unfolding SubPlaces.TrimOwed SubPlaces.InOnePlace Stand conditions
 trims w (Trim k a) s ok g f h o =
-    let b = passed (λ b. is_settled b.stage && (not b.aborted && holds (λ p. not p.trimmed) (declared_of a b))) (batch_of k s.desk.batches) ok.0 in
+    let b = one_is (λ b. is_settled b.stage && (not b.aborted && holds (λ p. not p.trimmed) (declared_of a b))) (batch_of k s.desk.batches) ok.0 in
     let p = and_parts (is_settled b.0.stage) (not b.0.aborted && holds (λ p. not p.trimmed) (declared_of a b.0)) b.2 in
     let q = and_parts (not b.0.aborted) (holds (λ p. not p.trimmed) (declared_of a b.0)) p.1 in
-    let x = passed (λ p. not p.trimmed) (declared_of a b.0) q.1 in
+    let x = one_is (λ p. not p.trimmed) (declared_of a b.0) q.1 in
     let i = found_at (λ p. p.actor == a) b.0.places x.0 x.1 in
     let fit = known.fit_is w s f k b.0 b.1 in
     let n = all_in (λ p. p.noted) b.0.places i.0 x.0 i.1 (fit.all_noted (later b.0.stage p.0)) in
     let own = actor a b.0.places x.0 x.1 in
-    let r = subst (λ z. IsIn (is_complete k z) (z % w.text.logs) s) own (all_at (λ p. p.noted ≡ true → IsIn (is_complete k p.actor) (p.actor % w.text.logs) s) b.0.places i.0 x.0 i.1 fit.noted n) in
+    let r = subst (λ z. IsIn (is_complete k z) (z % w.text.logs) s) own (each_found (λ p. p.noted ≡ true → IsIn (is_complete k p.actor) (p.actor % w.text.logs) s) b.0.places i.0 x.0 i.1 fit.noted n) in
     let fresh : is_aborted k s.book.cascades ≡ false = sym (settling.mark_is w s k b.0 b.1 g) ∙ not-true b.0.aborted q.0 in
     let v : SubPlaces.waits_at k a s.desk.batches ≡ true = rw b.1 q.1 in
     none (sub_of k a s.post.subs) refl (omega (arith, (h k a r).1 fresh v, o a k fresh, SubPlaces.one_most (SubPlaces.waits_at k a s.desk.batches)))

@@ -164,7 +164,7 @@ last_is_tail k a tail next cs bs ms f h l none = greatest_is tail _ (all_of (λ 
     own : (tail ≡ 0) ⊎ ((is_declared tail a bs ≡ true) × (epoch_of tail cs ≡ length cs)) → (tail ≡ 0) ⊎ (is_among tail (map (λ b. b.bid) (filter (is_of k (length cs) a cs) bs)) ≡ true)
     own (inl e) = inl e
     own (inr e) =
-        let b = Rattle.protocol_theorems.proofs.quiet.QuietEasy.passed (λ b. is_some (declared_of a b)) (batch_of tail bs) e.0 in
+        let b = Rattle.protocol_laws.proofs.machine.TurnsKept.one_is (λ b. is_some (declared_of a b)) (batch_of tail bs) e.0 in
         let i = Rattle.protocol_theorems.proofs.quiet.QuietEasy.found_at (λ b. b.bid == tail) bs b.0 b.1 in
         let q : b.0.bid ≡ tail = eqb-true b.0.bid tail (Rattle.protocol_laws.proofs.machine.MarksKept.found_bid tail b.0 bs b.1) in
         inr (subst (λ z. is_among z (map (λ b. b.bid) (filter (is_of k (length cs) a cs) bs)) ≡ true) q (one_in (is_of k (length cs) a cs) bs i.0 b.0 i.1
@@ -316,7 +316,7 @@ arrive_tail {C} w k a s ok g f d h = by (sub_of k a s.post.subs) refl ok.0 ok.1.
       where
         below : (cell_at s a).tail ≡ greatest (map (λ b. b.bid) (filter (is_of k (length s.book.cascades) a s.book.cascades) s.desk.batches)) → (y : ℕ) → is_declared y a s.desk.batches ≡ true → epoch_of y s.book.cascades ≡ length s.book.cascades → y < k → y ≤ (cell_at s a).tail
         below prev y dy ey l =
-            let b = Rattle.protocol_theorems.proofs.quiet.QuietEasy.passed (λ b. is_some (declared_of a b)) (batch_of y s.desk.batches) dy in
+            let b = Rattle.protocol_laws.proofs.machine.TurnsKept.one_is (λ b. is_some (declared_of a b)) (batch_of y s.desk.batches) dy in
             let z = Rattle.protocol_theorems.proofs.quiet.QuietEasy.found_at (λ b. b.bid == y) s.desk.batches b.0 b.1 in
             let u : b.0.bid ≡ y = eqb-true b.0.bid y (Rattle.protocol_laws.proofs.machine.MarksKept.found_bid y b.0 s.desk.batches b.1) in
             let o = one_in (is_of k (length s.book.cascades) a s.book.cascades) s.desk.batches z.0 b.0 z.1 (rw (lt-ltb b.0.bid k (omega (arith, u, l)), eq-eqb (epoch_of b.0.bid s.book.cascades) (length s.book.cascades) (ap (λ z. epoch_of z s.book.cascades) u ∙ ey), some_among a b.0.places ∙ b.2) refl) in
@@ -380,7 +380,7 @@ trim_tail w k b s ok g u r f p a h = carry s (after w (Trim k b) s) a (cell_at s
     own =
         let z = subs.trims w (Trim k b) s ok u f p.stand p.one in
         let n = (settling.trims_settled w s k b ok u).1 in
-        let b' = Rattle.protocol_theorems.proofs.quiet.QuietEasy.passed (λ x. Rattle.protocol.specs.Words.is_settled x.stage && (not x.aborted && holds (λ p. not p.trimmed) (declared_of b x))) (batch_of k s.desk.batches) ok.0 in
+        let b' = Rattle.protocol_laws.proofs.machine.TurnsKept.one_is (λ x. Rattle.protocol.specs.Words.is_settled x.stage && (not x.aborted && holds (λ p. not p.trimmed) (declared_of b x))) (batch_of k s.desk.batches) ok.0 in
         let q = and_parts (not b'.0.aborted) (holds (λ p. not p.trimmed) (declared_of b b'.0)) (and_parts (Rattle.protocol.specs.Words.is_settled b'.0.stage) (not b'.0.aborted && holds (λ p. not p.trimmed) (declared_of b b'.0)) b'.2).1 in
         let v : SubPlaces.waits_at k b s.desk.batches ≡ true = rw b'.1 q.1 in
         let o : 1 ≤ times k (batches_on (cell_at s b).entries) = omega (arith, p.one b k n, ap one_if v, none z) in

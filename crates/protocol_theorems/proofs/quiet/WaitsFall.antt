@@ -11,7 +11,7 @@ use Rattle.protocol_theorems.specs.Floors.{number_or_0}
 use Rattle.protocol_theorems.specs.Quiet.{Orderly, is_waiting_act, BeforeBatches, BehindBatches, ActsInOrder, IsAheadOf}
 use Rattle.protocol_theorems.specs.Waits.{IsPending, is_ahead, WaitsFor, IsLower, before_number_of, WaitsAlong}
 use Rattle.protocol_laws.proofs.first.PairsFound.{found_tid}
-use Rattle.protocol_theorems.proofs.quiet.QuietEasy.{passed}
+use Rattle.protocol_laws.proofs.machine.TurnsKept.{one_is}
 
 -- ---- an ACT that still has something to do
 
@@ -24,7 +24,7 @@ pub record Pending {C : Type 0} (s : Machine C) (t : ℕ) : Type 0 where
 
 pub pending : {C : Type 0} (s : Machine C) (t : ℕ) → IsPending s (OfAct t) → Pending s t
 pending s t h =
-    let x = passed is_waiting_act (act_of t s.book.acts) h in
+    let x = one_is is_waiting_act (act_of t s.book.acts) h in
     record { act = x.0; found = x.1; waiting = x.2; lives = not-true (is_doomed x.0.status) (and_parts (is_live_act x.0) _ x.2).1; number = ap number_or_0 x.1 }
 
 -- ---- along a schedule
@@ -84,7 +84,7 @@ falls w s o (OfAct t) (OfBatch k) h =
     let y = pending s t h.waiter in
     elim (h.waits) [
       | inl q ↦
-          let z = passed (λ x. is_live_status x.status && (is_some x.result && (x.m == k))) (act_of t s.book.acts) q in
+          let z = one_is (λ x. is_live_status x.status && (is_some x.result && (x.m == k))) (act_of t s.book.acts) q in
           let e = eqb-true z.0.m k (and_parts (is_some z.0.result) (z.0.m == k) (and_parts (is_live_status z.0.status) _ z.2).1).1 in
           omega (arith, e, ap number_or_0 z.1)
       | inr q ↦ omega (arith, y.number, behind_batch s.book.acts k t y.act (cell_at s q.0.actor).entries (o.acts.behind q.0.actor q.0.present) q.0.ahead y.found y.lives)

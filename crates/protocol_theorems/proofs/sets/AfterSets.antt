@@ -4,6 +4,7 @@ use Rattle.std.specs.List.{AllByRecursion}
 use Rattle.std.proofs.Common.{arith, sym, ap, subst, inl, inr, ◌∙◌}
 use Rattle.std.proofs.lemmas.List.{append-nil}
 use Rattle.std.proofs.lemmas.Bool.{eqb-true, eq-eqb, leb-true, ltb-true, le-leb, lt-ltb, and_parts, and_from, or_cases, or_left, or_right, not-true, true≢false, false_from_ne_true, cases_Bool}
+use Rattle.snap_base.proofs.Booleans.{and_false}
 use Rattle.protocol.specs.Fixed.{Fixed, Next, Go, Ended}
 use Rattle.protocol.specs.Rivals.{Lock}
 use Rattle.protocol.specs.Parts.{Act, Pair, Book, Batch, Cascade, Status, Live, Doomed, Decided, Sealed, Outcome, Who, OfBatch, OfAct, Entry, BatchEntry, ActEntry, Cell, Machine}
@@ -86,17 +87,13 @@ uncrossed_asked t a (Some x) group c b h = uncrossed_changed t _ b.acts (λ y i.
 unfoldable pub Uncrossed : {C : Type 0} → Machine C → Type 0
 Uncrossed s = AllByRecursion IsUncrossed s.book.acts
 
-no_number : (b : Bool) → (b && false) ≡ false
-no_number true = refl
-no_number false = refl
-
 pub uncrossed_kept : {C : Type 0} (w : Fixed C) (e : Event) (s : Machine C) → Uncrossed s → Uncrossed (after w e s)
 unfolding Uncrossed after
 uncrossed_kept w (Admit t) s h = all_join IsUncrossed s.book.acts _ h (refl, tt)
 uncrossed_kept w (Arrive k a) s h = all_crossed_gone a _
 uncrossed_kept w (Ask t a) s h = uncrossed_asked t a (book.in_the_way (lock_of t s.book.acts) (cell_at s a).entries) (book.met (lock_of t s.book.acts) (cell_at s a).entries) (cell_at s a) s.book h
 uncrossed_kept w (End t a) s h = uncrossed_ended t (has_act t (cell_at s a).entries) (outcome_of t (cell_at s a).outbox) s.book.acts h
-uncrossed_kept w (Abort k) s h = all_map IsUncrossed IsUncrossed _ s.book.acts (λ x i. no_number (is_live_status (book.cascaded k (book.failed_tx (book.why k s.desk)) x).status)) h
+uncrossed_kept w (Abort k) s h = all_map IsUncrossed IsUncrossed _ s.book.acts (λ x i. and_false (is_live_status (book.cascaded k (book.failed_tx (book.why k s.desk)) x).status)) h
 uncrossed_kept w (Prepare t a) s h = uncrossed_changed t _ s.book.acts (λ x i. i) h
 uncrossed_kept w (Vouch t a) s h = uncrossed_changed t _ s.book.acts (λ x i. i) h
 uncrossed_kept w (Decide t) s h = uncrossed_changed t _ s.book.acts (λ x i. fewer_crossed x (book.decided_as s.book.next_c x) (record { tid = refl; n = refl; live = live_decided s.book.next_c (is_value x.result) x.status }) refl i) h

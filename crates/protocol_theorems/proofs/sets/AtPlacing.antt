@@ -99,7 +99,7 @@ arrive_ends w Of finish k a t s h x y ok g b f e live there =
 
 -- ---- an ACT asks, and nobody is in its way
 
-status_joined : (c : Bool) (a m : ℕ) (x : Act) → (book.change_if c (book.joins a m) x).status ≡ x.status
+pub status_joined : (c : Bool) (a m : ℕ) (x : Act) → (book.change_if c (book.joins a m) x).status ≡ x.status
 status_joined true a m x = refl
 status_joined false a m x = refl
 

@@ -1,11 +1,13 @@
 -- The first PACT of a batch that failed, where all before it ended with a value, is the one that failed where all smaller tids
 -- ended with a value: PACTs stand by their tids.
-use Rattle.std.specs.Prelude.{◌≡◌, refl, ℕ, ◌+◌, ◌≤◌, nat_le, Bool, true, false, ◌&&◌, ◌||◌, Option, Some, None, List, [], ◌∷◌, find}
+use Rattle.std.specs.Prelude.{◌≡◌, refl, ℕ, ◌+◌, ◌≤◌, nat_le, Bool, true, false, ◌||◌, Option, Some, None, List, [], ◌∷◌, find}
 use Rattle.std.specs.List.{AllByRecursion, list_all}
 use Rattle.std.proofs.Common.{arith, sym, ap, ◌∙◌}
 use Rattle.std.proofs.lemmas.Bool.{le-leb, lt-leb}
 use Rattle.snap_base.specs.declared.transactions.TxResult.{TxResult}
 use Rattle.snap_base.specs.declared.transactions.TxResult.TheVariants.{Value, Fail}
+use Rattle.snap_base.proofs.Lists.{none_passes}
+use Rattle.snap_base.proofs.Booleans.{and_false}
 use Rattle.protocol.specs.Parts.{Pact}
 use Rattle.protocol.specs.Words.{is_value, is_failure, first_failed}
 use Rattle.protocol.specs.Rows.{is_blamed, failure_in, blamed}
@@ -17,14 +19,6 @@ use Rattle.protocol_laws.proofs.first.Lists.{weaker, or_true}
 pub find_same : {X : Type 0} (p q : X → Bool) (xs : List X) → AllByRecursion (λ x. p x ≡ q x) xs → find p xs ≡ find q xs
 find_same p q [] h = refl
 find_same p q (x ∷ xs) h = rw (h.0, find_same p q xs h.1) refl
-
-pub find_none : {X : Type 0} (p : X → Bool) (xs : List X) → AllByRecursion (λ x. p x ≡ false) xs → find p xs ≡ None
-find_none p [] h = refl
-find_none p (x ∷ xs) h = rw (h.0) (find_none p xs h.1)
-
-and_false : (b : Bool) → (b && false) ≡ false
-and_false true = refl
-and_false false = refl
 
 -- ---- PACTs by their tids
 
@@ -45,7 +39,7 @@ first_is_blamed low (p ∷ ps) a = by p.result refl (first_is_blamed (p.tid + 1)
 
     by : (r : Option TxResult) → p.result ≡ r → first_failed ps ≡ blamed ps → first_failed (p ∷ ps) ≡ blamed (p ∷ ps)
     by None e h =
-        let none : find (is_blamed (p ∷ ps)) ps ≡ None = find_none (is_blamed (p ∷ ps)) ps (weaker (λ q. p.tid + 1 ≤ q.tid) (λ q. is_blamed (p ∷ ps) q ≡ false) ps (λ q l. rw (e, lt-leb q.tid p.tid (omega (arith, l))) (and_false (is_failure q.result))) behind) in
+        let none : find (is_blamed (p ∷ ps)) ps ≡ None = none_passes (is_blamed (p ∷ ps)) ps (weaker (λ q. p.tid + 1 ≤ q.tid) (λ q. is_blamed (p ∷ ps) q ≡ false) ps (λ q l. rw (e, lt-leb q.tid p.tid (omega (arith, l))) (and_false (is_failure q.result))) behind) in
         let blames : blamed (p ∷ ps) ≡ None = rw (e) (ap failure_in none) in
         let fails : first_failed (p ∷ ps) ≡ None = rw (e) refl in
         fails ∙ sym blames

@@ -25,16 +25,13 @@ use Rattle.protocol_laws.proofs.first.Lists.{all_join, all_filter, weaker, both_
 use Rattle.protocol_theorems.proofs.sets.SpreadSets.{at_it, at_other}
 use Rattle.protocol_theorems.proofs.sets.GainsKept.{IsIn, GainsAre, PairsIn, in_grows, out}
 use Rattle.protocol_theorems.proofs.sets.BeforeSets.{SetsWith, self_pairs}
+use Rattle.protocol_theorems.proofs.quiet.InLine.{among_front}
 
 -- ---- the spread closes
 
 among_join : (k : ℕ) (xs ys : List ℕ) → is_among k ys ≡ true → is_among k (xs ++ ys) ≡ true
 among_join k [] ys h = h
 among_join k (x ∷ xs) ys h = or_right (x == k) _ (among_join k xs ys h)
-
-among_first : (k : ℕ) (xs ys : List ℕ) → is_among k xs ≡ true → is_among k (xs ++ ys) ≡ true
-among_first k [] ys h = absurd (true≢false (sym h))
-among_first k (x ∷ xs) ys h = elim (or_cases (x == k) (is_among k xs) h) [ inl q ↦ or_left (x == k) _ q | inr q ↦ or_right (x == k) _ (among_first k xs ys q) ]
 
 -- what one ahead has is gained
 gained_among : (gs : List Pair) (t u k : ℕ) (f : ℕ → List ℕ) → stands_behind gs t u ≡ true → is_among k (f u) ≡ true → is_among k (gained gs t f) ≡ true
@@ -43,7 +40,7 @@ gained_among (p ∷ ps) t u k f h i = by (p.behind == t) refl (or_cases ((p.behi
   where
     by : (b : Bool) → (p.behind == t) ≡ b → Rattle.std.specs.Prelude.◌⊎◌ (((p.behind == t) && (p.ahead == u)) ≡ true) (stands_behind ps t u ≡ true) → (stands_behind ps t u ≡ true → is_among k (f u) ≡ true → is_among k (gained ps t f) ≡ true)
         → is_among k (flat_map (λ p. f p.ahead) (if b then p ∷ filter (λ p. p.behind == t) ps else filter (λ p. p.behind == t) ps)) ≡ true
-    by true e (inl q) r = among_first k (f p.ahead) (gained ps t f) (subst (λ z. is_among k (f z) ≡ true) (sym (eqb-true p.ahead u (and_parts (p.behind == t) (p.ahead == u) q).1)) i)
+    by true e (inl q) r = among_front k (f p.ahead) (gained ps t f) (subst (λ z. is_among k (f z) ≡ true) (sym (eqb-true p.ahead u (and_parts (p.behind == t) (p.ahead == u) q).1)) i)
     by true e (inr q) r = among_join k (f p.ahead) (gained ps t f) (r q i)
     by false e (inl q) r = absurd (true≢false (sym (and_parts (p.behind == t) (p.ahead == u) q).0 ∙ e))
     by false e (inr q) r = r q i

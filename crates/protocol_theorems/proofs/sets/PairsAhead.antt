@@ -6,6 +6,7 @@ use Rattle.std.proofs.lemmas.List.{append-nil}
 use Rattle.std.proofs.lemmas.Bool.{eqb-true, eq-eqb, and_parts, and_from, or_cases, or_left, or_right, not-true, true≢false, false_from_ne_true, cases_Bool}
 use Rattle.snap_base.specs.declared.transactions.State.{State}
 use Rattle.snap_base.specs.declared.transactions.Tx.{Tx}
+use Rattle.snap_base.proofs.Lists.{both_all}
 use Rattle.protocol.specs.Fixed.{Fixed}
 use Rattle.protocol.specs.Facts.{Alone}
 use Rattle.protocol.specs.Rivals.{Lock, rivals}
@@ -30,7 +31,7 @@ use Rattle.protocol_laws.proofs.machine.ActsFound as acts
 use Rattle.protocol_laws.proofs.machine.ActsFound.{Holds}
 use Rattle.protocol_laws.proofs.machine.ActResults as results
 use Rattle.protocol_laws.proofs.machine.BehindKept as behind
-use Rattle.protocol_laws.proofs.machine.QueuedKept.{in_book}
+use Rattle.protocol_laws.proofs.machine.QueuedKept.{in_book, found_some}
 use Rattle.protocol_laws.proofs.machine.StartsKept.{Starts, Started}
 use Rattle.protocol_laws.proofs.machine.TrackLists
 use Rattle.protocol_laws.proofs.machine.TracksKept.{Tracked}
@@ -41,7 +42,6 @@ use Rattle.protocol_laws.proofs.machine.AllGood as all
 use Rattle.protocol_laws.proofs.machine.AllGood.{AllGood}
 use Rattle.protocol_laws.proofs.machine.Higher as higher
 use Rattle.protocol_laws.proofs.first.Lists.{all_join, all_map, all_filter, weaker}
-use Rattle.protocol_laws.proofs.machine.BehindKept.{holds_some}
 
 -- ---- one ACT ahead of another on a long schedule
 
@@ -306,7 +306,7 @@ ready_unplaced w (Decide u) s t n = λ x e p i. absurd (n (ap Decide i))
 ready_unplaced w e s t n = tt
 
 unplaced_stays : {C : Type 0} (w : Fixed C) (e : Event) (s : Machine C) (t : ℕ) → (e ≡ Decide t → ⊥) → holds is_unplaced (act_of t s.book.acts) ≡ true → holds is_unplaced (act_of t (after w e s).book.acts) ≡ true
-unplaced_stays w e s t n h = behind.each_to_holds is_unplaced t (after w e s).book.acts (in_book w e s t (holds_some is_unplaced (act_of t s.book.acts) h)) (acts.acts_keep w e s (λ u x. u ≡ t → is_unplaced x ≡ true) (holds_unplaced t) (ready_unplaced w e s t n) (behind.holds_to_each is_unplaced t s.book.acts h))
+unplaced_stays w e s t n h = behind.each_to_holds is_unplaced t (after w e s).book.acts (in_book w e s t (found_some is_unplaced (act_of t s.book.acts) h)) (acts.acts_keep w e s (λ u x. u ≡ t → is_unplaced x ≡ true) (holds_unplaced t) (ready_unplaced w e s t n) (behind.holds_to_each is_unplaced t s.book.acts h))
 
 doomed_stays : {C : Type 0} (w : Fixed C) (e : Event) (s : Machine C) (t : ℕ) → doomed_at s.book.acts t ≡ true → doomed_at (after w e s).book.acts t ≡ true
 doomed_stays w e s t h = grown_holds (λ x. is_doomed x.status) s.book.acts (after w e s).book.acts t (λ x y k q. k.doomed q) (acts_grow w e s) h
@@ -458,10 +458,6 @@ live_unplaced (Some x) e = by x.status e
     by (Decided c) e = absurd (true≢false (sym e))
     by (Sealed c) e = absurd (true≢false (sym e))
 
-with_both : {X : Type 0} (P Q R : X → Type 0) (xs : List X) → ((x : X) → P x → Q x → R x) → AllByRecursion P xs → AllByRecursion Q xs → AllByRecursion R xs
-with_both P Q R [] k g h = tt
-with_both P Q R (x ∷ xs) k g h = (k x g.0 h.0, with_both P Q R xs k g.1 h.1)
-
 pub ahead_kept : {C : Type 0} (w : Fixed C) (e : Event) (s : Machine C) (h : History) → IsAllowed w e s → shows.Owed e s h → AheadWith w s h → PairsAhead s h → PairsAhead (after w e s) (grown w e s h)
 unfolding PairsAhead shows.Owed Turned Tracked Started conditions after grown
 ahead_kept w (Arrive k a) s h ok o q g = moved w (Arrive k a) s h.long a (h.long a ++ not_run (OfBatch k) ∷ []) tt (λ u t d i. ahead_join u t (h.long a) (not_run (OfBatch k) ∷ []) i) g
@@ -474,7 +470,7 @@ ahead_kept w (Run t a) s h ok o q g =
     moved w (Run t a) s h.long a (ran_on (cell.reads_on t (cell_at s a).entries) who z (h.long a)) tt (λ u v d i. TrackLists.on_reads (λ rs. is_act_ahead u v rs ≡ true) (cell.reads_on t (cell_at s a).entries) who z (h.long a) (λ n. ahead_ran u v who z (h.long a) n) i) g
 ahead_kept w (Complete k a) s h ok o q g = moved w (Complete k a) s h.long a (map (completed k) (h.long a)) tt (λ u v d i. ahead_completed u v k (h.long a) i) g
 ahead_kept w (Rollback a) s h ok o q g = moved w (Rollback a) s h.long a (long_staying s.book.cascades (h.long a)) tt (λ u v d i. ahead_staying s.book.cascades s.book.acts u v (h.long a) d (q.taken a) i) g
-ahead_kept {C} w (Decide t) s h ok o q g = with_both (PairStands s.book.acts h.long) (Apart s.book.acts) (PairStands (after w (Decide t) s).book.acts h.long) s.book.pairs (λ p i r. elim (cases_Bool (p.behind == t)) [
+ahead_kept {C} w (Decide t) s h ok o q g = both_all (PairStands s.book.acts h.long) (Apart s.book.acts) (PairStands (after w (Decide t) s).book.acts h.long) s.book.pairs (λ p i r. elim (cases_Bool (p.behind == t)) [
   | inl e ↦ inl (own p (eqb-true p.behind t e) r i)
   | inr e ↦ pair_step w (Decide t) s h.long h.long p (λ v. not_it p e v) (λ u d j. j) i
 ]) g q.rivals

@@ -6,6 +6,8 @@ use Rattle.std.proofs.lemmas.Bool.{eqb-true, eq-eqb, leb-true, le-leb, ltb-true,
 use Rattle.snap_base.specs.declared.transactions.State.{State}
 use Rattle.snap_base.specs.declared.transactions.Tx.{Tx}
 use Rattle.snap_base.specs.declared.verdicts.Verdict.{Verdict}
+use Rattle.snap_base.proofs.Lists.{none_passes}
+use Rattle.snap_base.proofs.Booleans.{and_false}
 use Rattle.protocol.specs.Fixed.{Fixed}
 use Rattle.protocol.specs.Facts.{Alone}
 use Rattle.protocol.specs.Rivals.{Lock}
@@ -35,7 +37,7 @@ use Rattle.protocol_laws.proofs.machine.EntriesKept.{Left, LeftThrough, Standing
 use Rattle.protocol_laws.proofs.machine.TracksKept.{Tracked}
 use Rattle.protocol_laws.proofs.machine.Higher as higher
 use Rattle.protocol_theorems.proofs.sets.BeforeSets.{find_self}
-use Rattle.protocol_theorems.proofs.sets.Blamed.{find_same, find_none, first_is_blamed}
+use Rattle.protocol_theorems.proofs.sets.Blamed.{find_same, first_is_blamed}
 use Rattle.protocol_theorems.proofs.sets.BeforeStand as befores
 use Rattle.protocol_theorems.proofs.sets.BeforeStand.{BeforeStand}
 use Rattle.protocol_theorems.proofs.sets.NumbersBelow.{IsBelow, AllBelow, BelowStand, asks_live, below_kept, below_step, below_begins}
@@ -52,10 +54,6 @@ filter_same p q (x ∷ xs) h = rw (h.0, filter_same p q xs h.1) refl
 filter_whole : {X : Type 0} (p : X → Bool) (xs : List X) → AllByRecursion (λ x. p x ≡ true) xs → filter p xs ≡ xs
 filter_whole p [] h = refl
 filter_whole p (x ∷ xs) h = rw (h.0, filter_whole p xs h.1) refl
-
-and_false : (b : Bool) → (b && false) ≡ false
-and_false true = refl
-and_false false = refl
 
 -- ---- doom
 
@@ -463,7 +461,7 @@ same_cell c state images floors entries inbox outbox a b d e f g = rw (a, b, d, 
 stays_same_without : {C : Type 0} (t : ℕ) (x : Option Act) (c : Cell C) → has_act t c.entries ≡ false → AllByRecursion (λ i. is_key_among i.who (map key_of c.entries) ≡ true) c.images → cell.floors_after c.floors x ≡ c.floors → cell.act_left t x c ≡ c
 stays_same_without {C} t x c n h f =
     let others : AllByRecursion (λ i. is_who (OfAct t) i.who ≡ false) c.images = weaker _ _ c.images (λ i k. sym (subst (λ z. (z && is_who (OfAct t) i.who) ≡ is_who (OfAct t) i.who) n (act_image t c.entries i k))) h in
-    let state : (if cell.is_undone_act x then cell.state_from c.state (find (λ i. is_who (OfAct t) i.who) c.images) else c.state) ≡ c.state = undone (cell.is_undone_act x) (find_none (λ i. is_who (OfAct t) i.who) c.images others) in
+    let state : (if cell.is_undone_act x then cell.state_from c.state (find (λ i. is_who (OfAct t) i.who) c.images) else c.state) ≡ c.state = undone (cell.is_undone_act x) (none_passes (λ i. is_who (OfAct t) i.who) c.images others) in
     let images : filter (λ i. not (is_who (OfAct t) i.who)) c.images ≡ c.images = filter_whole (λ i. not (is_who (OfAct t) i.who)) c.images (weaker _ _ c.images (λ i k. ap not k) others) in
     same_cell c _ _ _ _ _ _ state images f (none_goes t c.entries n) (in_inbox c.inbox) (in_outbox c.outbox)
   where

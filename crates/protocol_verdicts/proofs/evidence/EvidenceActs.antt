@@ -30,6 +30,7 @@ use Rattle.protocol_laws.proofs.machine.ActsKept.{Acts, not_placed}
 use Rattle.protocol_laws.proofs.first.Lists.{some_of}
 use Rattle.protocol_laws.proofs.first.Statuses.{if_tid, ordered_not_live, sealed_not_decided}
 use Rattle.protocol_laws.proofs.machine.CommitRecords.{decided_placed, decided_value}
+use Rattle.protocol_theorems.proofs.sets.AtPlacing.{status_joined}
 use Rattle.protocol_verdicts.proofs.evidence.EvidencePacts.{none_some}
 
 -- ---- who is decided has a value
@@ -153,10 +154,6 @@ joined_if : (b : Bool) (a m : ℕ) (x : Act) → (b ≡ true → is_live_status 
 joined_if true a m x h l = absurd (true≢false (sym (h refl) ∙ ordered_not_live x.status l))
 joined_if false a m x h l = refl
 
-pub joined_status : (b : Bool) (a m : ℕ) (x : Act) → (book.change_if b (book.joins a m) x).status ≡ x.status
-joined_status true a m x = refl
-joined_status false a m x = refl
-
 pub joined_tx : (b : Bool) (a m : ℕ) (x : Act) → (book.change_if b (book.joins a m) x).tx ≡ x.tx
 joined_tx true a m x = refl
 joined_tx false a m x = refl
@@ -176,7 +173,7 @@ asked s u a l None q = λ t y f.
     let g = found_map (crossed_out a) (λ x. refl) t y (raised (s.book.pairs ++ book.new_pairs u a (book.met (lock_of u s.book.acts) (cell_at s a).entries) s.book.acts) own) f in
     let r = found_raised (s.book.pairs ++ book.new_pairs u a (book.met (lock_of u s.book.acts) (cell_at s a).entries) s.book.acts) t g.from own g.found in
     let b = found_map (λ x. book.change_if (x.tid == u) (book.joins a (max (cell_at s a).last (floor_at u s.book.acts (cell_at s a)))) x) (λ x. if_tid (x.tid == u) (book.joins a (max (cell_at s a).last (floor_at u s.book.acts (cell_at s a)))) x refl) t r.from s.book.acts r.found in
-    from (Ask u a) s t b.from y b.found (subst (Moves (Ask u a) s t b.from) g.is_it (subst (λ z. Moves (Ask u a) s t b.from (crossed_out a z)) r.is_it (subst (λ z. Moves (Ask u a) s t b.from (crossed_out a (record z { m = max z.m r.k }))) b.is_it (own_moves t b.from r.k b.found (λ d. r.placed (ap is_ordered (sym (ap (λ z. z.status) b.is_it) ∙ joined_status (b.from.tid == u) a _ b.from) ∙ d))))))
+    from (Ask u a) s t b.from y b.found (subst (Moves (Ask u a) s t b.from) g.is_it (subst (λ z. Moves (Ask u a) s t b.from (crossed_out a z)) r.is_it (subst (λ z. Moves (Ask u a) s t b.from (crossed_out a (record z { m = max z.m r.k }))) b.is_it (own_moves t b.from r.k b.found (λ d. r.placed (ap is_ordered (sym (ap (λ z. z.status) b.is_it) ∙ status_joined (b.from.tid == u) a _ b.from) ∙ d))))))
   where
     own_moves : (t : ℕ) (x : Act) (k : ℕ) → act_of t s.book.acts ≡ Some x → (is_ordered x.status ≡ true → k ≡ 0)
         → Moves (Ask u a) s t x (crossed_out a (record (book.change_if (x.tid == u) (book.joins a (max (cell_at s a).last (floor_at u s.book.acts (cell_at s a)))) x) { m = max (book.change_if (x.tid == u) (book.joins a (max (cell_at s a).last (floor_at u s.book.acts (cell_at s a)))) x).m k }))
@@ -184,7 +181,7 @@ asked s u a l None q = λ t y f.
         let m = max (cell_at s a).last (floor_at u s.book.acts (cell_at s a)) in
         let live = λ (j : (x.tid == u) ≡ true). some_of (λ x. is_live_status x.status) (act_of u s.book.acts) x (subst (λ z. act_of z s.book.acts ≡ Some x) (sym (found_tid t x s.book.acts f) ∙ eqb-true x.tid u j) f) l in
         crossing (Ask u a) s t a x (record (book.change_if (x.tid == u) (book.joins a m) x) { m = max (book.change_if (x.tid == u) (book.joins a m) x).m k })
-        (inr (u, (refl, q))) (joined_status (x.tid == u) a m x) (joined_tx (x.tid == u) a m x) (joined_result (x.tid == u) a m x)
+        (inr (u, (refl, q))) (status_joined (x.tid == u) a m x) (joined_tx (x.tid == u) a m x) (joined_result (x.tid == u) a m x)
         (λ e. omega (arith, d e, joined_if (x.tid == u) a m x live e))
 
 -- ---- it ends, is decided, is sealed

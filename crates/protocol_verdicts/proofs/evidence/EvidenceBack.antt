@@ -10,6 +10,7 @@ use Rattle.snap_base.specs.declared.transactions.TxResult.TheVariants.{Value, Fa
 use Rattle.snap_base.specs.declared.verdicts.Place.{Place}
 use Rattle.snap_base.specs.declared.verdicts.Verdict.{Verdict}
 use Rattle.snap_base.specs.declared.verdicts.Verdict.TheVariants as verdicts
+use Rattle.snap_base.proofs.Options.{somebody}
 use Rattle.protocol.specs.Fixed.{Fixed}
 use Rattle.protocol.specs.Facts.{Alone}
 use Rattle.protocol.specs.Parts.{Act, Pact, Batch, Cascade, Status, Live, Doomed, Decided, Sealed, Stage, Formed, Committing, Settled, Machine}
@@ -30,13 +31,13 @@ use Rattle.protocol_laws.proofs.first.SettlingKeys.{OverBelow, IsIn}
 use Rattle.protocol_laws.proofs.machine.ActsFound.{found_map, found_raised, found_tid}
 use Rattle.protocol_laws.proofs.machine.Higher.{asks_live}
 use Rattle.protocol_verdicts.proofs.evidence.EvidenceActs as acts
-use Rattle.protocol_verdicts.proofs.evidence.EvidenceActs.{joined_status}
 use Rattle.protocol_verdicts.proofs.evidence.EvidencePacts.{named, tells, find_more, found_bid}
 use Rattle.protocol_verdicts.proofs.evidence.EvidenceSaid.{IsOnce, by_act, by_pact}
 use Rattle.protocol_verdicts.proofs.evidence.EvidenceGiven.{Informed, in_way_back, why_is, same_some}
-use Rattle.protocol_laws.proofs.first.Lists.{some_is, some_of}
+use Rattle.protocol_laws.proofs.first.Lists.{some_of}
 use Rattle.protocol_laws.proofs.first.Statuses.{if_tid}
 use Rattle.protocol_laws.proofs.machine.QuietTold.{no_cascade}
+use Rattle.protocol_theorems.proofs.sets.AtPlacing.{status_joined}
 
 abbrev pub Says : {C : Type 0} → Fixed C → ℕ → Verdict → Event → Machine C → Type 0
 Says w n v e s = verdict n (after w e s).book (after w e s).desk ≡ Some v
@@ -129,7 +130,7 @@ crosses_says {C} w n m k a e s o r = by_act (after w e s) n r.tid r.next o r.fou
           (
             g.is_it,
             (
-              ap (λ z. z.status) (sym p.is_it) ∙ (ap (λ z. z.status) (sym b.is_it) ∙ (joined_status (b.from.tid == u) a _ b.from ∙ ap (λ z. z.status) q)),
+              ap (λ z. z.status) (sym p.is_it) ∙ (ap (λ z. z.status) (sym b.is_it) ∙ (status_joined (b.from.tid == u) a _ b.from ∙ ap (λ z. z.status) q)),
               ap (λ z. z.tx) (sym p.is_it) ∙ (ap (λ z. z.tx) (sym b.is_it) ∙ (acts.joined_tx (b.from.tid == u) a _ b.from ∙ ap (λ z. z.tx) q)),
             ),
           ),
@@ -233,7 +234,7 @@ fails_says : {C : Type 0} (w : Fixed C) (n k c code : ℕ) (s : Machine C) → I
 unfolding new_cascade
 fails_says w n k c code s ok g o r =
     let y = why_is n k c code (Abort k) s r in
-    let q = some_is (named n r.batch.pacts) (subst (λ z. is_some (named n z) ≡ true) (sym r.splits) (named_in n r.pact r.front r.rest r.tx)) in
+    let q = somebody (named n r.batch.pacts) (subst (λ z. is_some (named n z) ≡ true) (sym r.splits) (named_in n r.pact r.front r.rest r.tx)) in
     aborted_says w n k k r.batch q.0 s ok g o r.found q.1 (omega arith)
     ∙ (own (failed_tx (why k s.desk) == q.0.tx) (eq-eqb (failed_tx (why k s.desk)) q.0.tx (ap failed_tx y ∙ sym (named_tx n q.0 r.batch.pacts q.1)))
     ∙ (ap (λ z. Some (verdicts.BatchCode (record { 0 = k }) z (failed_code (why k s.desk)))) r.next_c ∙ ap (λ z. Some (verdicts.BatchCode (record { 0 = k }) c (failed_code z))) y))

@@ -1,8 +1,7 @@
 -- Who is given up for its two numbers stood between the batches of its sets.
-use Rattle.std.specs.Prelude.{◌≡◌, refl, ℕ, ◌==◌, true, Some, List, [], ◌∷◌, ◌++◌}
+use Rattle.std.specs.Prelude.{◌≡◌, refl, ℕ, true, Some, List, [], ◌∷◌, ◌++◌}
 use Rattle.std.specs.List.{AllByRecursion}
 use Rattle.std.proofs.Common.{sym, subst, inl, inr, ◌∙◌}
-use Rattle.std.proofs.lemmas.Bool.{eqb-true}
 use Rattle.snap_base.specs.declared.transactions.State.{State}
 use Rattle.snap_base.specs.declared.transactions.Tx.{Tx}
 use Rattle.snap_base.specs.declared.verdicts.Verdict.TheVariants as verdicts
@@ -19,7 +18,7 @@ use Rattle.protocol_verdicts.specs.Evidence.{PlacesOn, Crosses, IsGiven, StandsB
 use Rattle.protocol_theorems.specs.Sets.{least_in, StandsBehind}
 use Rattle.protocol_laws.proofs.machine.Good.{Given}
 use Rattle.protocol_laws.proofs.machine.AllGood.{AllGood, all_good}
-use Rattle.protocol_laws.proofs.first.Lists.{all_found}
+use Rattle.protocol_laws.proofs.first.PairsFound.{found_tid}
 use Rattle.protocol_theorems.proofs.sets.BeforeStand.{BeforeStand, before_stand}
 use Rattle.protocol_theorems.proofs.sets.AfterStand.{AfterStand, after_stand}
 use Rattle.protocol_theorems.proofs.sets.AtPlacing.{AtEnds, arrive_ends, ask_ends}
@@ -34,7 +33,7 @@ one_grown : {C : Type 0} (w : Fixed C) (front : List Event) (e : Event) (s : Mac
 one_grown w [] e s h = refl
 one_grown w (f ∷ front) e s h = one_grown w front e (after w f s) (grown w f s h)
 
-first_ones : {C : Type 0} (w : Fixed C) (front : List Event) (e : Event) (later : List Event) (s : Machine C) → EachAllowed w (front ++ e ∷ later) s → EachAllowed w front s × IsAllowed w e (state_after w front s)
+pub first_ones : {C : Type 0} (w : Fixed C) (front : List Event) (e : Event) (later : List Event) (s : Machine C) → EachAllowed w (front ++ e ∷ later) s → EachAllowed w front s × IsAllowed w e (state_after w front s)
 first_ones w [] e later s run = (tt, run.0)
 first_ones w (f ∷ front) e later s run = let r = first_ones w front e later (after w f s) run.1 in ((run.0, r.0), r.1)
 
@@ -47,13 +46,6 @@ at_event w Of finish a t e s h x y v (inl p) ok g b f i live j =
 at_event w Of finish a t e s h x y v (inr p) ok g b f i live j =
     subst (λ e. IsAllowed w e s → act_of t (after w e s).book.acts ≡ Some y → AtEnds (after w e s) (grown w e s h) y) (sym p.1.0) (λ ok j. ask_ends w Of finish p.0 a t s h x y v ok g b f p.1.1 i live j) ok j
 
-its_tid : (t : ℕ) (xs : List Act) (y : Act) → act_of t xs ≡ Some y → y.tid ≡ t
-its_tid t xs y e = eqb-true y.tid t (all_found (λ x. Unit {0}) (λ x. x.tid == t) xs y (each xs) e).1
-  where
-    each : (xs : List Act) → AllByRecursion (λ x. Unit {0}) xs
-    each [] = tt
-    each (x ∷ xs) = (tt, each xs)
-
 same_number : (x y z : ℕ) → x ≡ y → x ≡ z → y ≡ z
 same_number x y z p q = sym p ∙ q
 
@@ -65,7 +57,7 @@ stands_between w Of finish n m k a es v run g =
     let c : Crosses w n m k a g.event (reached w g.front) = g.gives in
     let r = first_ones w g.front g.event g.later (opening w) (subst (λ z. EachAllowed w z (opening w)) g.splits run) in
     let q = at_event w Of finish a c.tid g.event (reached w g.front) (history w g.front) c.act c.next v c.event r.1 (all_good w Of finish g.front v r.0) (before_stand w Of finish g.front v r.0) (after_stand w Of finish g.front v r.0) c.is_act.found c.live c.found in
-    let i = its_tid c.tid (after w g.event (reached w g.front)).book.acts c.next c.found in
+    let i = found_tid c.tid (after w g.event (reached w g.front)).book.acts c.next c.found in
     let now : reached w (g.front ++ g.event ∷ []) ≡ after w g.event (reached w g.front) = one_more w g.front g.event (opening w) in
     let then : history w (g.front ++ g.event ∷ []) ≡ grown w g.event (reached w g.front) (history w g.front) = one_grown w g.front g.event (opening w) no_history in
     record {

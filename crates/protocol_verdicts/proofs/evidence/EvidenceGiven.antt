@@ -2,13 +2,14 @@
 use Rattle.std.specs.Prelude.{◌≡◌, refl, ℕ, ◌<◌, ◌≤◌, ◌==◌, nat_lt, min, Bool, true, false, ◌⊎◌, if◌then◌else◌, Option, Some, None, is_some, List, [], ◌∷◌, ◌++◌, map}
 use Rattle.std.specs.List.{AllByRecursion}
 use Rattle.std.proofs.Common.{arith, sym, ap, subst, inl, inr, ◌∙◌}
-use Rattle.std.proofs.lemmas.Bool.{true≢false, eqb-true, ltb-true, ltb-false, eq-eqb, or_cases, or_left, or_right, cases_lt}
+use Rattle.std.proofs.lemmas.Bool.{true≢false, ltb-true, ltb-false, eq-eqb, or_left, or_right, cases_lt}
 use Rattle.snap_base.specs.declared.transactions.State.{State}
 use Rattle.snap_base.specs.declared.transactions.Tx.{Tx}
 use Rattle.snap_base.specs.declared.transactions.TxResult.{TxResult}
 use Rattle.snap_base.specs.declared.transactions.TxResult.TheVariants.{Value, Fail}
 use Rattle.snap_base.specs.declared.verdicts.Verdict.{Verdict}
 use Rattle.snap_base.specs.declared.verdicts.Verdict.TheVariants as verdicts
+use Rattle.snap_base.proofs.Options.{somebody}
 use Rattle.protocol.specs.Fixed.{Fixed}
 use Rattle.protocol.specs.Facts.{Alone}
 use Rattle.protocol.specs.Rivals.{Lock}
@@ -23,7 +24,7 @@ use Rattle.protocol.specs.OnBook.{in_the_way, why, failed_tx, failed_code}
 use Rattle.protocol.specs.History.{History}
 use Rattle.protocol_verdicts.specs.Evidence.{IsLeast, Fails, Gives}
 use Rattle.protocol_laws.specs.Told.{EachAct}
-use Rattle.protocol_laws.proofs.first.Lists.{some_is, weaker}
+use Rattle.protocol_laws.proofs.first.Lists.{weaker}
 use Rattle.protocol_laws.proofs.machine.TurnsKept.{one_is}
 use Rattle.protocol_laws.proofs.first.SettlingKept as settling
 use Rattle.protocol_laws.proofs.first.PairsFound.{TidsAscend}
@@ -31,6 +32,7 @@ use Rattle.protocol_laws.proofs.machine.QueuedKept.{in_book}
 use Rattle.protocol_laws.proofs.machine.FromDeskKept.{desk_stays}
 use Rattle.protocol_laws.proofs.machine.Higher.{asks_live}
 use Rattle.protocol_laws.proofs.machine.AllGood.{AllGood}
+use Rattle.protocol_theorems.proofs.sets.AfterSets.{among_all}
 use Rattle.protocol_verdicts.proofs.evidence.EvidenceActs as acts
 use Rattle.protocol_verdicts.proofs.evidence.EvidenceActs.{DecidedHaveValues}
 use Rattle.protocol_verdicts.proofs.evidence.EvidencePacts as pacts
@@ -42,14 +44,6 @@ use Rattle.protocol_verdicts.proofs.evidence.EvidenceSaid.{IsOnce, Speaks, ActSa
 abbrev pub Spec : ℕ → List ℕ → Option ℕ → Type 0
 Spec t ns None = AllByRecursion (λ k. t ≤ k) ns
 Spec t ns (Some u) = IsLeast u ns × (u < t)
-
-among_all : (P : ℕ → Type 0) (n : ℕ) (ns : List ℕ) → is_among n ns ≡ true → AllByRecursion P ns → P n
-among_all P n [] e h = absurd (true≢false (sym e))
-among_all P n (k ∷ ks) e h = by (or_cases (k == n) (is_among n ks) e) (λ f. among_all P n ks f h.1)
-  where
-    by : ((k == n) ≡ true) ⊎ (is_among n ks ≡ true) → (is_among n ks ≡ true → P n) → P n
-    by (inl q) r = subst P (eqb-true k n q) h.0
-    by (inr q) r = r q
 
 pub least_is : (t : ℕ) (xs : List Lock) → Spec t (map (λ x. x.tid) xs) (least_older t xs)
 least_is t [] = tt
@@ -201,7 +195,7 @@ stays w Of finish e s h n v ok g o q = spoken n v (after w e s) o (by (speaks w 
 
     by : Speaks n v s → Speaks n v (after w e s)
     by (inl p) = let c = in_desk w e s p.bid p.batch p.found in pact p c.0 c.1 (became_batches w Of finish e s h ok g p.bid c.0 c.1)
-    by (inr a) = let y = some_is (act_of a.tid (after w e s).book.acts) (in_book w e s a.tid (ap is_some a.found)) in act a y.0 y.1 (became_acts w Of finish e s h ok g a.tid y.0 y.1)
+    by (inr a) = let y = somebody (act_of a.tid (after w e s).book.acts) (in_book w e s a.tid (ap is_some a.found)) in act a y.0 y.1 (became_acts w Of finish e s h ok g a.tid y.0 y.1)
 
 pub cause : {C : Type 0} (w : Fixed C) (Of : Tx → C → Type 0) (finish : C → List State → Alone) (e : Event) (s : Machine C) (h : History) (n : ℕ) (v : Verdict) → IsAllowed w e s → Informed w Of finish s h → TidsAscend (after w e s)
     → verdict n s.book s.desk ≡ None → verdict n (after w e s).book (after w e s).desk ≡ Some v → Gives w n v e s

@@ -8,6 +8,7 @@ use Rattle.snap_base.specs.declared.transactions.Tx.{Tx}
 use Rattle.snap_base.specs.declared.transactions.TxResult.{TxResult}
 use Rattle.snap_base.specs.declared.transactions.TxResult.TheVariants.{Fail}
 use Rattle.snap_base.specs.declared.verdicts.Place.{Place}
+use Rattle.snap_base.proofs.Options.{same_some}
 use Rattle.protocol.specs.Fixed.{Fixed, no_state, tx_at}
 use Rattle.protocol.specs.Facts.{Alone, Facts, alone, serial, state_in}
 use Rattle.protocol.specs.Parts.{Pact, Batch, OfBatch, Machine}
@@ -85,9 +86,6 @@ serial_at : {C : Type 0} (w : Fixed C) (finish : C → List State → Alone) (fr
 serial_at w finish [] rest d world e = cc e
 serial_at w finish (x ∷ front) rest d world e = serial_at w finish front rest d (alone w.code finish world (tx_at w.text x.tx)).world (cc e)
 
-some_is : {X : Type 0} (x y : X) → Some x ≡ Some y → x ≡ y
-some_is x y e = cc e
-
 pub result_there : {C : Type 0} (w : Fixed C) (finish : C → List State → Alone) (s : Machine C) (h : History) (n : ℕ) (p : Place) (r : TxResult) → OrderStands w finish s h → IsAmongDone n p r h.committed → HasResultThere w finish n p r h.committed
 result_there w finish s h n p r o i =
     let g = subst (λ z. SplitAt i.done (by_place z)) (sym i.splits) (sorted_at i.done i.front i.rest) in
@@ -99,7 +97,7 @@ result_there w finish s h n p r o i =
       splits = g.splits;
       tx = i.tx;
       place = i.place;
-      gives = ap (λ z. (alone w.code finish (serial w.code finish w.text.opening.states (txs_of w g.front)).world (tx_at w.text z)).result) (sym i.tx) ∙ some_is _ r (e ∙ i.result);
+      gives = ap (λ z. (alone w.code finish (serial w.code finish w.text.opening.states (txs_of w g.front)).world (tx_at w.text z)).result) (sym i.tx) ∙ same_some _ r (e ∙ i.result);
     }
 
 -- ---- what counts

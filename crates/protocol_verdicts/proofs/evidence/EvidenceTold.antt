@@ -42,6 +42,7 @@ use Rattle.protocol_laws.proofs.machine.MarksKept.{found_bid}
 use Rattle.protocol_theorems.proofs.order.LastLaw.{whole, order_of_runs}
 use Rattle.protocol_verdicts.proofs.evidence.EvidenceSerial.{result_there, pacts_serial, next_settled, by_tid_of}
 use Rattle.protocol_verdicts.proofs.evidence.EvidenceRuns.{verdicts_stand}
+use Rattle.protocol_verdicts.proofs.evidence.EvidenceBetween.{first_ones}
 use Rattle.protocol.specs.Rests.{IsRest, IsTxIn}
 use Rattle.protocol_laws.proofs.first.Statuses.{settled_not_formed}
 use Rattle.protocol_laws.proofs.machine.ShowsKept.{kept_join}
@@ -94,12 +95,6 @@ settled_there w Of finish k s h g next d l i q = at (batch_of d.place.batch.0 s.
         let m = settling.mark_is w s d.place.batch.0 c e g.good.settling in
         let y = settling.in_keys c (λ z. z.bid == d.place.batch.0) s.desk.batches e in
         next_settled w k d.place.batch.0 s c g.good.settling next l (sym m ∙ false_from_ne_true c.aborted (λ a. true≢false (sym (g.good.settling.formed (settling.key_of c) y.0 a) ∙ n))) e
-
--- ---- the front of a run
-
-run_front : {C : Type 0} (w : Fixed C) (front : List Event) (e : Event) (later : List Event) (s : Machine C) → EachAllowed w (front ++ e ∷ later) s → EachAllowed w front s × IsAllowed w e (state_after w front s)
-run_front w [] e later s run = (tt, run.0)
-run_front w (f ∷ front) e later s run = let g = run_front w front e later (after w f s) run.1 in ((run.0, g.0), g.1)
 
 -- ---- what commits after an Abort does not count for it
 
@@ -237,7 +232,7 @@ failed_at w Of finish n k c code es v run g =
     let r : Fails n k c code g.event (reached w g.front) = g.gives in
     let split = subst (λ z. es ≡ g.front ++ z ∷ g.later) r.event g.splits in
     let whole_run = subst (λ z. EachAllowed w z (opening w)) split run in
-    let f = run_front w g.front (Abort k) g.later (opening w) whole_run in
+    let f = first_ones w g.front (Abort k) g.later (opening w) whole_run in
     let same = ap (λ z. filter (counts k c) (history w z).committed) split ∙ from_abort w k c g.front g.later (opening w) no_history whole_run (settling.opened w v.text) r.next_c in
     record { front = g.front; later = g.later; splits = split; next_c = r.next_c; there = fails_there w Of finish n k c code g.front (history w es).committed v f.0 f.1 same (subst (λ z. Fails n k c code z (reached w g.front)) r.event r) }
 

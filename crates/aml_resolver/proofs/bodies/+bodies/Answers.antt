@@ -4,8 +4,8 @@ use Rattle.aml_tokens.specs.declared.tokens.Word.{Word}
 use Rattle.aml_tree.specs.Tree.{Onto, expression_tree, method_tree, statement_tree, block_tree}
 use Rattle.aml_resolver.specs.Faults.{faults, block_faults}
 use Rattle.aml_resolver.specs.Resolving.{Steps}
-use Rattle.aml_resolver.proofs.Chains.{refuses_more}
-use Rattle.aml_resolver.proofs.StatementSteps.{none_before, none_yet, block_goes, block_refuses, room_first, room_next, if_goes, if_else_goes, while_goes, fail_goes}
+use Rattle.aml_resolver.proofs.Chains.{refuses_more, refuses_behind}
+use Rattle.aml_resolver.proofs.StatementSteps.{none_yet, block_goes, block_refuses, room_first, room_next, if_goes, if_else_goes, while_goes, fail_goes}
 use Rattle.aml_tree.specs.TreeRules.{tree_of_let, tree_of_call, tree_of_set, tree_of_field, tree_of_if, tree_of_if_else, tree_of_while, tree_of_fail, tree_of_return}
 use Rattle.aml_resolver.proofs.bodies.+bodies.Goals as goal
 
@@ -68,7 +68,7 @@ statement-returns-in_err-holds-in-If t c =
 pub statement-returns-in_err-then-in-If : goal.statement-returns-in_err-then-in-If
 statement-returns-in_err-then-in-If t c =
     let p = err_from_is_err_and c.from_residual-in_err-then-in-If.result c.from_residual-in_err-then-in-If.ensures.1 in
-    rw (p.1, p.2, c.in-If.is) (rw (tree_of_if c.in-If.condition c.in-If.first) (λ rest. none_before (faults c.args.names.now.items (expression_tree c.in-If.condition)) ((block_faults (map method_tree c.args.methods.now) c.args.is_read c.args.names.now.items (block_tree c.in-If.first)) ++ block_faults (map method_tree c.args.methods.now) c.args.is_read c.args.names.now.items rest) c.in_err-then-in-If.field-0.0 (rw c.as_slice-in-If.ensures.value at c.in_ok-holds-in-If.ensures).0 (refuses_more (block_faults (map method_tree c.args.methods.now) c.args.is_read c.args.names.now.items (block_tree c.in-If.first)) (block_faults (map method_tree c.args.methods.now) c.args.is_read c.args.names.now.items rest) c.in_err-then-in-If.field-0.0 c.in_err-then-in-If.ensures.resolved)))
+    rw (p.1, p.2, c.in-If.is) (rw (tree_of_if c.in-If.condition c.in-If.first) (λ rest. refuses_behind (faults c.args.names.now.items (expression_tree c.in-If.condition)) ((block_faults (map method_tree c.args.methods.now) c.args.is_read c.args.names.now.items (block_tree c.in-If.first)) ++ block_faults (map method_tree c.args.methods.now) c.args.is_read c.args.names.now.items rest) c.in_err-then-in-If.field-0.0 (rw c.as_slice-in-If.ensures.value at c.in_ok-holds-in-If.ensures).0 (refuses_more (block_faults (map method_tree c.args.methods.now) c.args.is_read c.args.names.now.items (block_tree c.in-If.first)) (block_faults (map method_tree c.args.methods.now) c.args.is_read c.args.names.now.items rest) c.in_err-then-in-If.field-0.0 c.in_err-then-in-If.ensures.resolved)))
 
 pub statement-returns-in_ok-then-in-If : goal.statement-returns-in_ok-then-in-If
 statement-returns-in_ok-then-in-If t c =
@@ -82,12 +82,12 @@ statement-returns-in_err-holds-in-IfElse t c =
 pub statement-returns-in_err-then-in-IfElse : goal.statement-returns-in_err-then-in-IfElse
 statement-returns-in_err-then-in-IfElse t c =
     let p = err_from_is_err_and c.from_residual-in_err-then-in-IfElse.result c.from_residual-in_err-then-in-IfElse.ensures.1 in
-    rw (p.1, p.2, c.in-IfElse.is) (rw (tree_of_if_else c.in-IfElse.condition c.in-IfElse.first c.in-IfElse.other) (λ rest. none_before (faults c.args.names.now.items (expression_tree c.in-IfElse.condition)) ((block_faults (map method_tree c.args.methods.now) c.args.is_read c.args.names.now.items (block_tree c.in-IfElse.first)) ++ ((block_faults (map method_tree c.args.methods.now) c.args.is_read c.args.names.now.items (block_tree c.in-IfElse.other)) ++ block_faults (map method_tree c.args.methods.now) c.args.is_read c.args.names.now.items rest)) c.in_err-then-in-IfElse.field-0.0 (rw c.as_slice-in-IfElse.ensures.value at c.in_ok-holds-in-IfElse.ensures).0 (refuses_more (block_faults (map method_tree c.args.methods.now) c.args.is_read c.args.names.now.items (block_tree c.in-IfElse.first)) ((block_faults (map method_tree c.args.methods.now) c.args.is_read c.args.names.now.items (block_tree c.in-IfElse.other)) ++ block_faults (map method_tree c.args.methods.now) c.args.is_read c.args.names.now.items rest) c.in_err-then-in-IfElse.field-0.0 c.in_err-then-in-IfElse.ensures.resolved)))
+    rw (p.1, p.2, c.in-IfElse.is) (rw (tree_of_if_else c.in-IfElse.condition c.in-IfElse.first c.in-IfElse.other) (λ rest. refuses_behind (faults c.args.names.now.items (expression_tree c.in-IfElse.condition)) ((block_faults (map method_tree c.args.methods.now) c.args.is_read c.args.names.now.items (block_tree c.in-IfElse.first)) ++ ((block_faults (map method_tree c.args.methods.now) c.args.is_read c.args.names.now.items (block_tree c.in-IfElse.other)) ++ block_faults (map method_tree c.args.methods.now) c.args.is_read c.args.names.now.items rest)) c.in_err-then-in-IfElse.field-0.0 (rw c.as_slice-in-IfElse.ensures.value at c.in_ok-holds-in-IfElse.ensures).0 (refuses_more (block_faults (map method_tree c.args.methods.now) c.args.is_read c.args.names.now.items (block_tree c.in-IfElse.first)) ((block_faults (map method_tree c.args.methods.now) c.args.is_read c.args.names.now.items (block_tree c.in-IfElse.other)) ++ block_faults (map method_tree c.args.methods.now) c.args.is_read c.args.names.now.items rest) c.in_err-then-in-IfElse.field-0.0 c.in_err-then-in-IfElse.ensures.resolved)))
 
 pub statement-returns-in_err-otherwise-in-IfElse : goal.statement-returns-in_err-otherwise-in-IfElse
 statement-returns-in_err-otherwise-in-IfElse t c =
     let p = err_from_is_err_and c.from_residual-in_err-otherwise-in-IfElse.result c.from_residual-in_err-otherwise-in-IfElse.ensures.1 in
-    rw (p.1, p.2, c.in-IfElse.is) (rw (tree_of_if_else c.in-IfElse.condition c.in-IfElse.first c.in-IfElse.other) (λ rest. none_before (faults c.args.names.now.items (expression_tree c.in-IfElse.condition)) ((block_faults (map method_tree c.args.methods.now) c.args.is_read c.args.names.now.items (block_tree c.in-IfElse.first)) ++ ((block_faults (map method_tree c.args.methods.now) c.args.is_read c.args.names.now.items (block_tree c.in-IfElse.other)) ++ block_faults (map method_tree c.args.methods.now) c.args.is_read c.args.names.now.items rest)) c.in_err-otherwise-in-IfElse.field-0.0 (rw c.as_slice-in-IfElse.ensures.value at c.in_ok-holds-in-IfElse.ensures).0 (none_before (block_faults (map method_tree c.args.methods.now) c.args.is_read c.args.names.now.items (block_tree c.in-IfElse.first)) ((block_faults (map method_tree c.args.methods.now) c.args.is_read c.args.names.now.items (block_tree c.in-IfElse.other)) ++ block_faults (map method_tree c.args.methods.now) c.args.is_read c.args.names.now.items rest) c.in_err-otherwise-in-IfElse.field-0.0 c.in_ok-then-in-IfElse.ensures.resolved.0 (refuses_more (block_faults (map method_tree c.args.methods.now) c.args.is_read c.args.names.now.items (block_tree c.in-IfElse.other)) (block_faults (map method_tree c.args.methods.now) c.args.is_read c.args.names.now.items rest) c.in_err-otherwise-in-IfElse.field-0.0 (rw c.in_ok-then-in-IfElse.ensures.names at c.in_err-otherwise-in-IfElse.ensures.resolved)))))
+    rw (p.1, p.2, c.in-IfElse.is) (rw (tree_of_if_else c.in-IfElse.condition c.in-IfElse.first c.in-IfElse.other) (λ rest. refuses_behind (faults c.args.names.now.items (expression_tree c.in-IfElse.condition)) ((block_faults (map method_tree c.args.methods.now) c.args.is_read c.args.names.now.items (block_tree c.in-IfElse.first)) ++ ((block_faults (map method_tree c.args.methods.now) c.args.is_read c.args.names.now.items (block_tree c.in-IfElse.other)) ++ block_faults (map method_tree c.args.methods.now) c.args.is_read c.args.names.now.items rest)) c.in_err-otherwise-in-IfElse.field-0.0 (rw c.as_slice-in-IfElse.ensures.value at c.in_ok-holds-in-IfElse.ensures).0 (refuses_behind (block_faults (map method_tree c.args.methods.now) c.args.is_read c.args.names.now.items (block_tree c.in-IfElse.first)) ((block_faults (map method_tree c.args.methods.now) c.args.is_read c.args.names.now.items (block_tree c.in-IfElse.other)) ++ block_faults (map method_tree c.args.methods.now) c.args.is_read c.args.names.now.items rest) c.in_err-otherwise-in-IfElse.field-0.0 c.in_ok-then-in-IfElse.ensures.resolved.0 (refuses_more (block_faults (map method_tree c.args.methods.now) c.args.is_read c.args.names.now.items (block_tree c.in-IfElse.other)) (block_faults (map method_tree c.args.methods.now) c.args.is_read c.args.names.now.items rest) c.in_err-otherwise-in-IfElse.field-0.0 (rw c.in_ok-then-in-IfElse.ensures.names at c.in_err-otherwise-in-IfElse.ensures.resolved)))))
 
 pub statement-returns-in_ok-otherwise-in-IfElse : goal.statement-returns-in_ok-otherwise-in-IfElse
 statement-returns-in_ok-otherwise-in-IfElse t c =
@@ -101,7 +101,7 @@ statement-returns-in_err-holds-in-While t c =
 pub statement-returns-in_err-turn-in-While : goal.statement-returns-in_err-turn-in-While
 statement-returns-in_err-turn-in-While t c =
     let p = err_from_is_err_and c.from_residual-in_err-turn-in-While.result c.from_residual-in_err-turn-in-While.ensures.1 in
-    rw (p.1, p.2, c.in-While.is) (rw (tree_of_while c.in-While.condition c.in-While.body) (λ rest. none_before (faults c.args.names.now.items (expression_tree c.in-While.condition)) ((block_faults (map method_tree c.args.methods.now) c.args.is_read c.args.names.now.items (block_tree c.in-While.body)) ++ block_faults (map method_tree c.args.methods.now) c.args.is_read c.args.names.now.items rest) c.in_err-turn-in-While.field-0.0 (rw c.as_slice-in-While.ensures.value at c.in_ok-holds-in-While.ensures).0 (refuses_more (block_faults (map method_tree c.args.methods.now) c.args.is_read c.args.names.now.items (block_tree c.in-While.body)) (block_faults (map method_tree c.args.methods.now) c.args.is_read c.args.names.now.items rest) c.in_err-turn-in-While.field-0.0 c.in_err-turn-in-While.ensures.resolved)))
+    rw (p.1, p.2, c.in-While.is) (rw (tree_of_while c.in-While.condition c.in-While.body) (λ rest. refuses_behind (faults c.args.names.now.items (expression_tree c.in-While.condition)) ((block_faults (map method_tree c.args.methods.now) c.args.is_read c.args.names.now.items (block_tree c.in-While.body)) ++ block_faults (map method_tree c.args.methods.now) c.args.is_read c.args.names.now.items rest) c.in_err-turn-in-While.field-0.0 (rw c.as_slice-in-While.ensures.value at c.in_ok-holds-in-While.ensures).0 (refuses_more (block_faults (map method_tree c.args.methods.now) c.args.is_read c.args.names.now.items (block_tree c.in-While.body)) (block_faults (map method_tree c.args.methods.now) c.args.is_read c.args.names.now.items rest) c.in_err-turn-in-While.field-0.0 c.in_err-turn-in-While.ensures.resolved)))
 
 pub statement-returns-in_ok-turn-in-While : goal.statement-returns-in_ok-turn-in-While
 statement-returns-in_ok-turn-in-While t c =

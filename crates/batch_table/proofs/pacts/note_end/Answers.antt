@@ -1,8 +1,8 @@
 use Rattle.std.proofs.Common.{arith, None, ap, sym, ◌∙◌, ◌-◌}
 use Rattle.std.specs.Prelude.{slice_set}
+use Rattle.snap_base.proofs.Lists.{set_outside}
 use Rattle.protocol.specs.Parts.{Pact}
 use Rattle.batch_table.specs.Joining.{pact_tids, first_or_zero}
-use Rattle.batch_table.proofs.ByNumber.{set_outside}
 use Rattle.batch_table.proofs.EndedPacts.{below_without, without_noted, noted_at}
 use Rattle.batch_table.proofs.pacts.note_end.Goals as goal
 

@@ -3,18 +3,19 @@ use Rattle.protocol.specs.Events.{Decide}
 use Rattle.protocol.specs.Conditions.{conditions}
 use Rattle.protocol.specs.Effects.{after, act_commit, added}
 use Rattle.protocol.specs.Words.{act_of}
+use Rattle.protocol_laws.proofs.first.PairsFound.{found_tid}
 use Rattle.book_part.specs.Halves.{Shows}
 use Rattle.log_set.specs.Shown.{ShowsLog}
 use Rattle.core_rows.proofs.Rules.{allowed_where}
 use Rattle.core_rows.proofs.Placing.{log_there}
-use Rattle.core_rows.proofs.Commits.{act_number, spelled}
+use Rattle.core_rows.proofs.Commits.{spelled}
 use Rattle.core_rows.proofs.deciding.decide.Goals as goal
 
 pub add_commit-requires : goal.add_commit-requires
 add_commit-requires g c =
     let ok = allowed_where c.requires.text (Decide c.args.t.0) c.requires.state (c.decide_refusal-rule.ensures c.requires.text c.requires.state c.requires.run (c.requires.shows.0, c.requires.shows.1, c.requires.shows.2) ∙ c.if-rule-ne0.false) in
     spelled c.in_ok-commit.commit c.requires.state.book.next_c c.args.t.0 (act_of c.args.t.0 c.requires.state.book.acts) (c.in_ok-commit.ensures c.requires.state.book c.requires.shows.1)
-    (λ x is. (act_number c.args.t.0 c.requires.state.book.acts x is, (c.rows_may.ensures c.requires.text c.requires.state c.requires.run).tells_act c.args.t.0 x ok is))
+    (λ x is. (found_tid c.args.t.0 c.requires.state.book.acts x is, (c.rows_may.ensures c.requires.text c.requires.state c.requires.run).tells_act c.args.t.0 x ok is))
 
 pub decide-number-requires-clause-ready : goal.decide-number-requires-clause-ready
 unfolding conditions

@@ -1,10 +1,11 @@
 use Rattle.std.proofs.Common.{◌≡◌, None, [], ◌∷◌, ◌++◌, length, map, ap, sym, subst, ◌∙◌, append_assoc, append-nil, arith}
 use Rattle.std.specs.Vec.Iter.{into_iter_items}
+use Rattle.snap_base.proofs.Lists.{nothing_left}
 use Rattle.protocol.specs.Parts.{OfBatch}
 use Rattle.protocol.specs.Words.{control_of}
 use Rattle.post_box.specs.Posting.{control_posted}
 use Rattle.core_rows.specs.Begun.{first_message}
-use Rattle.core_rows.proofs.Begun.{middle, one_more, nothing_left}
+use Rattle.core_rows.proofs.Begun.{middle, one_more}
 use Rattle.core_rows.proofs.forming.post_firsts.Goals as goal
 
 pub post_first-requires-clause-room : goal.post_first-requires-clause-room

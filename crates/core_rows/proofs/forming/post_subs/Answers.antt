@@ -1,9 +1,10 @@
 use Rattle.std.proofs.Common.{◌≡◌, None, [], ◌∷◌, ◌++◌, length, map, ap, sym, subst, ◌∙◌, append_assoc, append-nil, arith}
 use Rattle.std.specs.Vec.Iter.{into_iter_items}
+use Rattle.snap_base.proofs.Lists.{nothing_left}
 use Rattle.protocol.specs.Words.{sub_of}
 use Rattle.post_box.specs.Posting.{sub_posted}
 use Rattle.protocol.specs.Meant.{sub_batch}
-use Rattle.core_rows.proofs.Begun.{middle, one_more, nothing_left}
+use Rattle.core_rows.proofs.Begun.{middle, one_more}
 use Rattle.core_rows.proofs.forming.post_subs.Goals as goal
 
 pub post_sub-requires-clause-room : goal.post_sub-requires-clause-room

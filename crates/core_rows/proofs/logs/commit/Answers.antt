@@ -6,13 +6,13 @@ use Rattle.protocol.specs.OnDesk.{batch_committing}
 use Rattle.protocol.specs.Records.{BatchDone}
 use Rattle.std.specs.Int.{w64}
 use Rattle.std.specs.List.{AllByRecursion}
+use Rattle.std.proofs.lemmas.Bool.{and_from}
 use Rattle.txn_records.specs.declared.records.Record.TheVariants as records
 use Rattle.protocol.specs.Parts.{Desk}
 use Rattle.protocol.specs.Words.{batch_of, values_of}
 use Rattle.batch_table.specs.Askings.{may_commit}
 use Rattle.core_rows.proofs.Rules.{allowed_where}
 use Rattle.core_rows.proofs.Placing.{log_there}
-use Rattle.core_rows.proofs.Found.{both}
 use Rattle.core_rows.proofs.logs.commit.Goals as goal
 
 pub add-requires : goal.add-requires
@@ -26,7 +26,7 @@ pub commit-requires : goal.commit-requires
 unfolding conditions
 commit-requires g c =
     let ok = allowed_where c.requires.text (Commit c.args.k.0) c.requires.state (c.commit_refusal-rule.ensures c.requires.text c.requires.state c.requires.run c.requires.shows ∙ c.if-rule-ne0.false) in
-    subst (λ d. IsTrue (may_commit c.args.k.0 d.batches)) c.requires.shows.0 (both _ _ ok.0 (both _ _ ok.1.0 ok.1.1.0))
+    subst (λ d. IsTrue (may_commit c.args.k.0 d.batches)) c.requires.shows.0 (and_from _ _ ok.0 (and_from _ _ ok.1.0 ok.1.1.0))
 
 pub returns-clause-ok : goal.returns-clause-ok
 unfolding after

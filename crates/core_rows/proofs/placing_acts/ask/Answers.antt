@@ -1,5 +1,6 @@
 use Rattle.std.proofs.Common.{◌≡◌, not, is_some, map, max, Some, None, ap, sym, subst, ◌∙◌}
 use Rattle.std.specs.Option.{option_map}
+use Rattle.snap_base.proofs.Options.{nobody_is, somebody}
 use Rattle.protocol.specs.Meant.{tid_number}
 use Rattle.protocol.specs.Events.{Ask}
 use Rattle.protocol.specs.Conditions.{conditions}
@@ -14,7 +15,7 @@ use Rattle.core_rows.proofs.Rules.{allowed_where}
 use Rattle.core_rows.proofs.Placing.{is_at, put_there}
 use Rattle.core_rows.proofs.Found.{held, is_there}
 use Rattle.order_book.specs.Asked.{locks_of}
-use Rattle.core_rows.proofs.Older.{asked_halves, nobody, rivals_met, same_tids, somebody}
+use Rattle.core_rows.proofs.Older.{asked_halves, rivals_met, same_tids}
 use Rattle.core_rows.proofs.placing_acts.ask.Goals as goal
 
 pub ask-requires : goal.ask-requires
@@ -48,7 +49,7 @@ returns-then-is_none-clause-ok g c w s r shows =
     let halves = asked_halves c.args.book.now c.args.t.0 c.args.a.0 locks _ _ before in
     let book = subst (λ h. Shows h (after w (Ask c.args.t.0 c.args.a.0) s).book) (sym (c.in_ok-older.ensures.ok locks are ∙ halves)) (c.books_go_on.ensures w (Ask c.args.t.0 c.args.a.0) s c.args.book.now r shows.0 ok) in
     let post = ap (control_taken c.args.t.0) shows.1 ∙ sym c.take_control.ensures.messages in
-    let none = nobody c.in_ok-older.older (c.is_none.ensures ∙ ap not c.if-is_none.true) in
+    let none = nobody_is c.in_ok-older.older (c.is_none.ensures ∙ ap not c.if-is_none.true) in
     let way = sym (c.in_ok-older.ensures.older locks are) ∙ ap (option_map tid_number) none in
     let m = held _ _ ok.0 in
     let is = is_there message_control c.take_control.result _ m.0 c.take_control.ensures.value (ap (λ p. control_of c.args.t.0 p.controls) (sym shows.1) ∙ m.1) in

@@ -1,5 +1,6 @@
 use Rattle.std.proofs.Common.{◌≡◌, ◌<◌, nat_lt, Some, length, slice_get, ap, sym, subst, ◌∙◌}
 use Rattle.std.proofs.lemmas.Bool.{ltb-true}
+use Rattle.snap_base.proofs.Options.{pair_mapped}
 use Rattle.protocol.specs.Events.{Rollback}
 use Rattle.protocol.specs.Conditions.{conditions}
 use Rattle.protocol.specs.Effects.{after, cell_at}
@@ -8,7 +9,6 @@ use Rattle.protocol.specs.Words.{holds, is_empty, acts_on}
 use Rattle.actor_cell.specs.Cut.{IsCutFrom}
 use Rattle.core_rows.proofs.Rules.{allowed_where}
 use Rattle.core_rows.proofs.Placing.{is_at, put_there}
-use Rattle.core_rows.proofs.Found.{mapped_some}
 use Rattle.core_rows.proofs.rolling.rollback.Goals as goal
 
 pub first_after-first-requires : goal.first_after-first-requires
@@ -24,7 +24,7 @@ unfolding after
 returns-clause-ok g c w s r shows =
     let ok = allowed_where w (Rollback c.args.a.0) s (c.rollback_refusal-rule.ensures w s r shows ∙ c.if-rule-ne0.false) in
     let here = is_at s c.args.a.0 c.args.cell.now.cell shows.1 in
-    let x = mapped_some (λ y. y.first) (slice_get s.book.cascades c.epoch-seen.result) c.first_after-first.result.0 (c.first_after-first.ensures s.book shows.0) in
+    let x = pair_mapped (λ y. y.first) (slice_get s.book.cascades c.epoch-seen.result) c.first_after-first.result.0 (c.first_after-first.ensures s.book shows.0) in
     let at : slice_get s.book.cascades (cell_at s c.args.a.0).epoch ≡ Some x.0 = ap (slice_get s.book.cascades) (ap (λ y. y.epoch) here ∙ sym c.epoch-seen.ensures) ∙ x.1.0 in
     let cut = (c.rows_may.ensures w s r).rolls_back c.args.a.0 x.0 at in
     let cut_here = subst (λ y. IsCutFrom x.0.first (is_empty (acts_on (staying s.book.cascades y.entries))) s.book.cascades y.entries y.images) here cut in

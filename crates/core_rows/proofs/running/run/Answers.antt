@@ -1,5 +1,6 @@
 use Rattle.std.proofs.Common.{◌≡◌, ◌<◌, is_some, false, Some, length, ap, sym, subst, ◌∙◌}
 use Rattle.std.specs.Option.{option_map}
+use Rattle.snap_base.proofs.Options.{somebody}
 use Rattle.protocol.specs.Events.{Run}
 use Rattle.protocol.specs.Conditions.{conditions}
 use Rattle.protocol.specs.Effects.{after}
@@ -8,7 +9,6 @@ use Rattle.protocol.specs.Words.{holds, image_of, waiting_of, who_on}
 use Rattle.cell_part.specs.Contents.{waiting_control}
 use Rattle.core_rows.proofs.Rules.{allowed_where}
 use Rattle.core_rows.proofs.Placing.{is_at, put_there}
-use Rattle.core_rows.proofs.Older.{somebody}
 use Rattle.core_rows.proofs.Slices.{ran}
 use Rattle.core_rows.proofs.running.run.Goals as goal
 

@@ -1,6 +1,6 @@
 use Rattle.std.proofs.Common.{map, sym, ap, ◌∙◌}
 use Rattle.recovery_laws.specs.Grown.{PlacedResult}
-use Rattle.machine_recovery.proofs.Values.{results_told}
+use Rattle.recovery_laws.proofs.RunsAgain.{results_at}
 use Rattle.machine_recovery.proofs.laws.logs_recover_as_meant.Goals as goal
 
 pub returns : goal.returns
@@ -10,6 +10,6 @@ returns c w es m kept earlier o is run left many before begins =
     let meant = c.recovered_transactions_are_as_meant.ensures w es m kept is run left in
     record {
       results = meant.results;
-      values = ap (λ xs. map (λ (x : PlacedResult). x.2) xs) recovers.ordered ∙ (results_told _ ∙ sym meant.results);
+      values = ap (λ xs. map (λ (x : PlacedResult). x.2) xs) recovers.ordered ∙ (results_at _ ∙ sym meant.results);
       states = λ a below. recovers.states a below ∙ (sym (crash.states a below) ∙ meant.states a below);
     }

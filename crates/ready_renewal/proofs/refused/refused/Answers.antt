@@ -1,8 +1,9 @@
 use Rattle.std.proofs.Common.{◌++◌, arith, map, subst}
 use Rattle.core_events.specs.Meant.{event_meant}
+use Rattle.ready_list.proofs.Gaps.{same_length}
 use Rattle.snap_hand.specs.Tables.{fixed_of}
 use Rattle.ready_renewal.specs.Asked.{AreAsked}
-use Rattle.ready_renewal.proofs.KeptEvents.{front_and_back_of, same_length}
+use Rattle.ready_renewal.proofs.KeptEvents.{front_and_back_of}
 use Rattle.ready_renewal.proofs.refused.refused.Goals as goal
 
 pub ask_from-requires-clause-within : goal.ask_from-requires-clause-within

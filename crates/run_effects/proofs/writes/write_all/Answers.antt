@@ -2,7 +2,8 @@ use Rattle.std.proofs.Common.{◌-◌, take, drop, length, arith, sym, subst, �
 use Rattle.std.proofs.lemmas.List.{take-append-drop, length-take, length-drop}
 use Rattle.std.proofs.KnownBytes.{Appends-kept, Appends-trans}
 use Rattle.std.specs.Io.KnownBytes.{Appends}
-use Rattle.run_effects.proofs.Pieces.{take_on, on_any_err}
+use Rattle.snap_base.proofs.Options.{on_any_err}
+use Rattle.run_effects.proofs.Pieces.{take_on}
 use Rattle.snap_outside.proofs.AtFault.{failed_call}
 use Rattle.run_effects.proofs.writes.write_all.Goals as goal
 

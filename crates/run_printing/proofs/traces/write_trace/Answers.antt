@@ -2,10 +2,11 @@ use Rattle.std.proofs.Common.{◌≡◌, ◌+◌, ◌-◌, length, take, drop, s
 use Rattle.std.specs.Io.KnownBytes.{Appends}
 use Rattle.std.proofs.KnownBytes.{Appends-trans}
 use Rattle.std.proofs.lemmas.Result.{err_from_is_err_and}
+use Rattle.snap_base.proofs.Options.{on_any_err}
 use Rattle.trace_text.specs.Traces.{trace_of}
 use Rattle.run_printing.specs.Printed.{traced_line}
 use Rattle.snap_outside.proofs.AtFault.{calls_join, surely}
-use Rattle.run_printing.proofs.Fronts.{lines_cut, on_any_err}
+use Rattle.run_printing.proofs.Fronts.{lines_cut}
 use Rattle.run_printing.proofs.Lines.{trace_more, events_cut}
 use Rattle.run_printing.proofs.traces.write_trace.Goals as goal
 

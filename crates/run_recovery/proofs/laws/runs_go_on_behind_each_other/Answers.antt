@@ -1,6 +1,7 @@
 use Rattle.std.proofs.Common.{arith, map}
+use Rattle.snap_base.proofs.Lists.{all_step}
 use Rattle.aml_check.specs.Checked.{methods_of}
-use Rattle.machine_recovery.proofs.Programs.{all_of_them, one_more}
+use Rattle.machine_recovery.proofs.Programs.{all_of_them}
 use Rattle.run_recovery.proofs.SeveralRuns.{AreRecovered, go_on_behind}
 use Rattle.run_recovery.proofs.laws.runs_go_on_behind_each_other.Goals as goal
 
@@ -17,4 +18,4 @@ returns c xs of_them behind =
     }) (map methods_of ps) all xs of_them behind
 
 pub loop-program-preserved : goal.loop-program-preserved
-loop-program-preserved c = one_more (λ p. AreRecovered (methods_of p)) c.args.programs.now c.loop-program.program-index c.program-item.result c.loop-program-test.true c.program-item.is c.loop-program.invariant c.runs_are_recovered.ensures
+loop-program-preserved c = all_step (λ p. AreRecovered (methods_of p)) c.args.programs.now c.loop-program.program-index c.program-item.result c.loop-program-test.true c.program-item.is c.loop-program.invariant c.runs_are_recovered.ensures

@@ -7,18 +7,19 @@ use Rattle.protocol.specs.Parts.{Cell}
 use Rattle.protocol.specs.Records.{BatchComplete}
 use Rattle.snap_hand.specs.Tables.{fixed_of, text_of}
 use Rattle.snap_hand.proofs.Held.{cell_there}
-use Rattle.snap_hand.proofs.LogSteps.{log_held, log_shown, on_log_and_cell}
+use Rattle.snap_hand.proofs.LogSteps.{log_shown, on_log_and_cell}
 use Rattle.snap_hand.proofs.Nowhere.{below, no_actor}
 use Rattle.snap_hand.proofs.Stepping.{of_run}
 use Rattle.snap_hand.proofs.InBoxes.{lent_cell, lent_log}
 use Rattle.snap_hand.proofs.on_logs.complete.Goals as goal
+use Rattle.snap_hand.proofs.Begins.{log_is_there}
 
 pub returns-then-not-has_actor : goal.returns-then-not-has_actor
 returns-then-not-has_actor c =
     ((omega arith, λ s r f. c.nothing_happens_nowhere.ensures.complete (fixed_of c.args.tables.now) s c.args.k.0 c.args.a.0 (no_actor (fixed_of c.args.tables.now) s c.args.hand.now c.args.a.0 c.has_actor.result (c.rows_may.ensures (fixed_of c.args.tables.now) s r) c.requires.asked.places c.has_actor.ensures c.if-not-has_actor.true)), refl)
 
 pub take_log-log-requires : goal.take_log-log-requires
-take_log-log-requires c = log_held (fixed_of c.args.tables.now) c.args.hand.now c.args.a.0 c.log_of-place.result c.requires.tables.accepted c.requires.asked.places c.log_of-place.ensures c.requires.asked.parts.0
+take_log-log-requires c = log_is_there (fixed_of c.args.tables.now) c.args.hand.now c.args.a.0 c.log_of-place.result c.requires.tables.accepted c.requires.asked.places c.log_of-place.ensures c.requires.asked.parts.0
 
 pub take_cell-cell-requires : goal.take_cell-cell-requires
 take_cell-cell-requires c = subst (λ z. (x : Cell Rest) × (slice_get z.cells c.args.a.0 ≡ Some (Some x))) (sym c.take_log-log.ensures.taken) (cell_there c.args.hand.now (text_of c.args.tables.now).logs c.args.a.0 c.requires.asked.places.logs c.requires.asked.parts.1.0 (below c.args.a.0 _ c.has_actor.result c.has_actor.ensures c.if-not-has_actor.false))

@@ -7,16 +7,17 @@ use Rattle.protocol.specs.Fixed.{base}
 use Rattle.protocol.specs.Words.{act_of}
 use Rattle.snap_hand.specs.Tables.{fixed_of, text_of}
 use Rattle.snap_hand.proofs.Held.{book_there, desk_there}
-use Rattle.snap_hand.proofs.LogSteps.{log_held, log_shown, on_book_and_log}
+use Rattle.snap_hand.proofs.LogSteps.{log_shown, on_book_and_log}
 use Rattle.snap_hand.proofs.Stepping.{of_run}
 use Rattle.snap_hand.proofs.InBoxes.{lent, lent_log}
 use Rattle.snap_hand.proofs.on_logs.decide.Goals as goal
+use Rattle.snap_hand.proofs.Begins.{log_is_there}
 
 pub take_book-book-requires : goal.take_book-book-requires
 take_book-book-requires c = book_there c.args.hand.now c.requires.asked.parts.0
 
 pub take_log-log-requires : goal.take_log-log-requires
-take_log-log-requires c = subst (λ z. (x : LogList) × (slice_get z.logs c.log_of-place.result ≡ Some (Some x))) (sym c.take_book-book.ensures.taken) (log_held (fixed_of c.args.tables.now) c.args.hand.now c.args.t.0 c.log_of-place.result c.requires.tables.accepted c.requires.asked.places c.log_of-place.ensures c.requires.asked.parts.1.1.0)
+take_log-log-requires c = subst (λ z. (x : LogList) × (slice_get z.logs c.log_of-place.result ≡ Some (Some x))) (sym c.take_book-book.ensures.taken) (log_is_there (fixed_of c.args.tables.now) c.args.hand.now c.args.t.0 c.log_of-place.result c.requires.tables.accepted c.requires.asked.places c.log_of-place.ensures c.requires.asked.parts.1.1.0)
 
 pub desk-requires : goal.desk-requires
 desk-requires c = let d = desk_there c.args.hand.now c.requires.asked.parts.1.0 in (d.0, ap (λ z. z.desk) c.take_log-log.ensures.taken ∙ (ap (λ z. z.desk) c.take_book-book.ensures.taken ∙ d.1))

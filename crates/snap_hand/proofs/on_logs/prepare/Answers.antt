@@ -7,11 +7,12 @@ use Rattle.protocol.specs.Records.{ActPrepare}
 use Rattle.protocol_laws.specs.Ranges.{NumbersInRange}
 use Rattle.snap_hand.specs.Tables.{fixed_of, text_of}
 use Rattle.snap_hand.proofs.Held.{book_there, cell_there}
-use Rattle.snap_hand.proofs.LogSteps.{log_held, log_shown, on_book_and_log}
+use Rattle.snap_hand.proofs.LogSteps.{log_shown, on_book_and_log}
 use Rattle.snap_hand.proofs.Nowhere.{below, not_an_actor, prepares_somewhere, refuses}
 use Rattle.snap_hand.proofs.Stepping.{of_run}
 use Rattle.snap_hand.proofs.InBoxes.{lent, lent_log}
 use Rattle.snap_hand.proofs.on_logs.prepare.Goals as goal
+use Rattle.snap_hand.proofs.Begins.{log_is_there}
 
 pub book-requires : goal.book-requires
 book-requires c = book_there c.args.hand.now c.requires.asked.parts.0
@@ -31,7 +32,7 @@ pub take_book-book-requires : goal.take_book-book-requires
 take_book-book-requires c = book_there c.args.hand.now c.requires.asked.parts.0
 
 pub take_log-log-requires : goal.take_log-log-requires
-take_log-log-requires c = subst (λ z. (x : LogList) × (slice_get z.logs c.log_of-place.result ≡ Some (Some x))) (sym c.take_book-book.ensures.taken) (log_held (fixed_of c.args.tables.now) c.args.hand.now c.args.a.0 c.log_of-place.result c.requires.tables.accepted c.requires.asked.places c.log_of-place.ensures c.requires.asked.parts.1.0)
+take_log-log-requires c = subst (λ z. (x : LogList) × (slice_get z.logs c.log_of-place.result ≡ Some (Some x))) (sym c.take_book-book.ensures.taken) (log_is_there (fixed_of c.args.tables.now) c.args.hand.now c.args.a.0 c.log_of-place.result c.requires.tables.accepted c.requires.asked.places c.log_of-place.ensures c.requires.asked.parts.1.0)
 
 pub cell-requires : goal.cell-requires
 cell-requires c = let d = cell_there c.args.hand.now (text_of c.args.tables.now).logs c.args.a.0 c.requires.asked.places.logs c.requires.asked.parts.1.1.0 (below c.args.a.0 _ c.has_actor.result c.has_actor.ensures c.if-not-has_actor.false) in (d.0, ap (λ z. slice_get z.cells c.args.a.0) c.take_log-log.ensures.taken ∙ (ap (λ z. slice_get z.cells c.args.a.0) c.take_book-book.ensures.taken ∙ d.1))

@@ -4,15 +4,16 @@ use Rattle.protocol.specs.Effects.{after}
 use Rattle.protocol.specs.Events.{Seal}
 use Rattle.snap_hand.specs.Tables.{fixed_of}
 use Rattle.snap_hand.proofs.Held.{book_there}
-use Rattle.snap_hand.proofs.LogSteps.{log_held, on_book}
+use Rattle.snap_hand.proofs.LogSteps.{on_book}
 use Rattle.snap_hand.proofs.InBoxes.{lent}
 use Rattle.snap_hand.proofs.on_logs.seal.Goals as goal
+use Rattle.snap_hand.proofs.Begins.{log_is_there}
 
 pub take_book-book-requires : goal.take_book-book-requires
 take_book-book-requires c = book_there c.args.hand.now c.requires.asked.parts.0
 
 pub log-requires : goal.log-requires
-log-requires c = subst (λ z. (x : LogList) × (slice_get z.logs c.log_of-place.result ≡ Some (Some x))) (sym c.take_book-book.ensures.taken) (log_held (fixed_of c.args.tables.now) c.args.hand.now c.args.t.0 c.log_of-place.result c.requires.tables.accepted c.requires.asked.places c.log_of-place.ensures c.requires.asked.parts.1.0)
+log-requires c = subst (λ z. (x : LogList) × (slice_get z.logs c.log_of-place.result ≡ Some (Some x))) (sym c.take_book-book.ensures.taken) (log_is_there (fixed_of c.args.tables.now) c.args.hand.now c.args.t.0 c.log_of-place.result c.requires.tables.accepted c.requires.asked.places c.log_of-place.ensures c.requires.asked.parts.1.0)
 
 pub returns : goal.returns
 unfolding after

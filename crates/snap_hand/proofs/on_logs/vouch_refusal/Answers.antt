@@ -1,13 +1,14 @@
 use Rattle.snap_hand.specs.Tables.{fixed_of}
 use Rattle.snap_hand.proofs.Held.{book_there}
-use Rattle.snap_hand.proofs.LogSteps.{log_held, log_shown}
+use Rattle.snap_hand.proofs.LogSteps.{log_shown}
 use Rattle.snap_hand.proofs.on_logs.vouch_refusal.Goals as goal
+use Rattle.snap_hand.proofs.Begins.{log_is_there}
 
 pub book-requires : goal.book-requires
 book-requires c = book_there c.args.hand.now c.requires.asked.parts.0
 
 pub log-requires : goal.log-requires
-log-requires c = log_held (fixed_of c.args.tables.now) c.args.hand.now c.args.a.0 c.log_of-place.result c.requires.tables.accepted c.requires.asked.places c.log_of-place.ensures c.requires.asked.parts.1.0
+log-requires c = log_is_there (fixed_of c.args.tables.now) c.args.hand.now c.args.a.0 c.log_of-place.result c.requires.tables.accepted c.requires.asked.places c.log_of-place.ensures c.requires.asked.parts.1.0
 
 pub returns : goal.returns
 returns c s r f = c.vouch_refusal.ensures (fixed_of c.args.tables.now) s r (f.book _ c.book.ensures, log_shown c.args.hand.now s f c.log_of-place.result _ c.log_of-place.ensures c.log.result.now c.log.ensures)

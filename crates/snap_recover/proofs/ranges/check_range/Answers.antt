@@ -4,7 +4,7 @@ use Rattle.std.specs.List.{AllByRecursion}
 use Rattle.snap_recover.specs.Logs.{all_of}
 use Rattle.snap_recover.specs.Opening.{IsInRange}
 use Rattle.std.proofs.lemmas.List.{length-take-le}
-use Rattle.snap_recover.proofs.Lists.{all_append}
+use Rattle.snap_base.proofs.Lists.{all_join}
 use Rattle.snap_recover.proofs.Steps.{same_at, split_at, logs_step}
 use Rattle.snap_recover.proofs.ranges.check_range.Goals as goal
 
@@ -20,7 +20,7 @@ returns-in-Some c =
       c.key_of.result,
       i,
       refl,
-      (take i logs, drop (i + 1) logs, p.0, p.1, is, sym (length-take-le i logs (omega arith)), all_append (IsInRange c.args.actors) (all_of (take i logs)) p.0 c.loop-i.invariant p.3, p.4),
+      (take i logs, drop (i + 1) logs, p.0, p.1, is, sym (length-take-le i logs (omega arith)), all_join (IsInRange c.args.actors) (all_of (take i logs)) p.0 c.loop-i.invariant p.3, p.4),
       c.key_of.ensures,
     )
 
@@ -30,4 +30,4 @@ loop-i-preserved c =
     let i = c.loop-i.i in
     let rs = c.as_slice.result.now in
     let at = same_at logs i c.index-logs-i.result rs c.as_slice.ensures c.index-logs-i.is in
-    subst (AllByRecursion (IsInRange c.args.actors)) (sym (logs_step logs i rs c.loop-i-test.true at)) (all_append (IsInRange c.args.actors) (all_of (take i logs)) rs c.loop-i.invariant c.in_default.ensures)
+    subst (AllByRecursion (IsInRange c.args.actors)) (sym (logs_step logs i rs c.loop-i-test.true at)) (all_join (IsInRange c.args.actors) (all_of (take i logs)) rs c.loop-i.invariant c.in_default.ensures)

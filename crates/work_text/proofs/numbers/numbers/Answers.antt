@@ -4,7 +4,8 @@ use Rattle.std.specs.Int.{w64}
 use Rattle.std.specs.Fmt.{signed_decimal}
 use Rattle.std.proofs.lemmas.List.{length-map}
 use Rattle.std.proofs.lemmas.Int.{to_z-of_z}
-use Rattle.work_text.proofs.Lists.{spelled_at, spelled_more, all_more, now_at}
+use Rattle.snap_base.proofs.Lists.{all_push}
+use Rattle.work_text.proofs.Lists.{spelled_at, spelled_more, now_at}
 use Rattle.work_text.proofs.numbers.numbers.Goals as goal
 
 pub returns-in_default : goal.returns-in_default
@@ -18,5 +19,5 @@ loop-word-preserved c =
     let fits : FitsSigned w64 c.in-Some.value = search rules in
     rw (c.in_ok-push.ensures.items, to_z-of_z w64 c.in-Some.value fits) (record {
       spelled = spelled_more signed_decimal c.args.words.now c.loop-word.values.items c.loop-word.word-index _ c.in-Some.value (omega arith) c.in-Some.ensures.found c.loop-word.invariant.spelled;
-      fits = all_more (FitsSigned w64) c.loop-word.values.items c.in-Some.value c.loop-word.invariant.fits fits;
+      fits = all_push (FitsSigned w64) c.loop-word.values.items c.in-Some.value c.loop-word.invariant.fits fits;
     })

@@ -1,8 +1,9 @@
 use Rattle.std.proofs.Common.{ℕ, ◌<◌, length, map, sym, ◌∙◌, List, Bor, arith}
 use Rattle.std.proofs.lemmas.List.{length-map}
+use Rattle.snap_base.proofs.Lists.{all_push}
 use Rattle.aml_check.specs.Transactions.{IsUse}
 use Rattle.work_text.specs.Transactions.{use_word}
-use Rattle.work_text.proofs.Lists.{spelled_at, spelled_more, all_more, now_at}
+use Rattle.work_text.proofs.Lists.{spelled_at, spelled_more, now_at}
 use Rattle.work_text.proofs.uses.uses_of.Goals as goal
 
 pub returns-in_default : goal.returns-in_default
@@ -15,5 +16,5 @@ pub loop-word-preserved : goal.loop-word-preserved
 loop-word-preserved c =
     rw c.in_ok-push.ensures.items (record {
       spelled = spelled_more use_word c.args.words.now c.loop-word.uses.items c.loop-word.word-index _ c.in-Some.declared (omega arith) c.in-Some.ensures.found.0 c.loop-word.invariant.spelled;
-      each = all_more (IsUse c.args.actors) c.loop-word.uses.items c.in-Some.declared c.loop-word.invariant.each c.in-Some.ensures.found.1;
+      each = all_push (IsUse c.args.actors) c.loop-word.uses.items c.in-Some.declared c.loop-word.invariant.each c.in-Some.ensures.found.1;
     })

@@ -1,10 +1,10 @@
 use Rattle.std.proofs.Common.{ℕ, List, [], ◌∷◌, ◌-◌, length, option_map, ap, subst, arith, length-append}
 use Rattle.std.specs.List.{AllByRecursion}
+use Rattle.snap_base.proofs.Lists.{all_but_last, all_last, all_push}
 use Rattle.aml_resume.specs.declared.activations.Activation.{Activation}
 use Rattle.aml_resume.specs.Rooms.{HasRoom}
 use Rattle.aml_slice.specs.Views.{IsEnough}
 use Rattle.aml_slice.specs.declared.frames.Frame as code
-use Rattle.aml_slice.proofs.FrameLists.{all_front, all_last, all_push}
 use Rattle.aml_slice.proofs.running.Running.enter.Goals as goal
 
 pub returns-clause-rooms : goal.returns-clause-rooms
@@ -17,7 +17,7 @@ returns-clause-rooms c =
     record {
       top = rw (c.replace-below.ensures.after, c.swap.ensures.x_after) (c.requires.rooms.arguments, omega (arith, room.1, c.clear.ensures.capacity));
       waiting = rw (c.push_reserved.ensures.items, c.replace-below.ensures.value) (all_push (λ (f : code.Frame). HasRoom f.activation) c.args.self.now.waiting.items c.args.self.now.top c.requires.rooms.waiting c.requires.rooms.top);
-      spare = all_front HasRoom c.pop.new.self.items c.in-Some.fresh all;
+      spare = all_but_last HasRoom c.pop.new.self.items c.in-Some.fresh all;
       frames = subst S (omega (arith, ap length c.in-Some.ensures.items, length-append c.pop.new.self.items (c.in-Some.fresh ∷ []))) (subst W (omega (arith, ap length c.push_reserved.ensures.items, length-append c.args.self.now.waiting.items (c.replace-below.result ∷ []))) c.requires.enough);
       few = omega (arith, c.requires.few, ap length c.push_reserved.ensures.items, length-append c.args.self.now.waiting.items (c.replace-below.result ∷ []));
       frames_fit = (

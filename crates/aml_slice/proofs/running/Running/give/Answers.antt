@@ -1,9 +1,10 @@
 use Rattle.std.proofs.Common.{ℕ, option_map, List, [], ◌∷◌, length, map, reverse, ap, ◌∙◌, subst, arith, length-append}
 use Rattle.std.specs.List.{AllByRecursion}
+use Rattle.snap_base.proofs.Lists.{all_but_last, all_last, all_push}
 use Rattle.aml_resume.specs.Rooms.{HasRoom}
 use Rattle.aml_slice.specs.Views.{HasPlace, IsEnough, frame_of}
 use Rattle.aml_slice.specs.declared.frames.Frame as code
-use Rattle.aml_slice.proofs.FrameLists.{last_first, all_front, all_last, all_push}
+use Rattle.aml_slice.proofs.FrameLists.{last_first}
 use Rattle.aml_slice.proofs.SpareFrames.{enough_given}
 use Rattle.aml_slice.proofs.running.Running.give.Goals as goal
 
@@ -24,7 +25,7 @@ returns-clause-rooms c =
     let S : ℕ → Type 0 = λ s. IsEnough (length c.pop.new.self.items) s (option_map (λ us. us.items) c.args.self.now.allowance.left) in
     record {
       top = rw (c.push_reserved-2.ensures.capacity, c.replace-ended.ensures.after) room;
-      waiting = all_front (λ (f : code.Frame). HasRoom f.activation) c.pop.new.self.items c.in_ok-frame.frame all;
+      waiting = all_but_last (λ (f : code.Frame). HasRoom f.activation) c.pop.new.self.items c.in_ok-frame.frame all;
       spare = rw (c.push_reserved.ensures.items, c.replace-ended.ensures.value) (all_push HasRoom c.args.self.now.spare.items c.args.self.now.top.activation c.requires.rooms.spare c.requires.rooms.top);
       frames = subst S (omega (arith, ap length c.push_reserved.ensures.items, length-append c.args.self.now.spare.items (c.replace-ended.result.activation ∷ []))) (enough_given (length c.pop.new.self.items) (length c.args.self.now.spare.items) left (subst W (omega (arith, ap length c.in_ok-frame.ensures.items, length-append c.pop.new.self.items (c.in_ok-frame.frame ∷ []))) c.requires.rooms.frames));
       few = omega (arith, c.requires.rooms.few, ap length c.in_ok-frame.ensures.items, length-append c.pop.new.self.items (c.in_ok-frame.frame ∷ []));

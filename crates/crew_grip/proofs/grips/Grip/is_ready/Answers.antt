@@ -1,5 +1,5 @@
+use Rattle.snap_base.proofs.Lists.{all_next}
 use Rattle.crew_grip.specs.Acted.{IsReadyAt}
-use Rattle.crew_grip.proofs.Footprints.{all_next}
 use Rattle.crew_grip.proofs.grips.Grip.is_ready.Goals as goal
 
 pub loop-i-preserved : goal.loop-i-preserved

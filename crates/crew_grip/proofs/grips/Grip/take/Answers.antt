@@ -1,4 +1,5 @@
 use Rattle.std.proofs.Common.{◌∙◌, List, Option, Some, is_some, ap, sym, subst, arith}
+use Rattle.snap_base.proofs.Options.{is_some_map}
 use Rattle.crew_parts.specs.Acts.{MayDo, touched}
 use Rattle.crew_parts.specs.Shares.{ShareState}
 use Rattle.protocol.specs.Runs.{reached}
@@ -7,7 +8,7 @@ use Rattle.snap_hand.specs.Tables.{fixed_of}
 use Rattle.turn_table.specs.Places.{at, put_at}
 use Rattle.turn_table.specs.Runs.{Fits}
 use Rattle.crew_grip.specs.Grips.{IsGripOf}
-use Rattle.crew_grip.proofs.ByNumber.{is_some_map, none_of}
+use Rattle.crew_grip.proofs.ByNumber.{none_of}
 use Rattle.turn_table.proofs.ByPlace.{put_else}
 use Rattle.crew_grip.proofs.Working.{no_part, part_of_run, stands_now, took}
 use Rattle.crew_grip.proofs.grips.Grip.take.Goals as goal
