@@ -20,3 +20,5 @@ pub mod ExactMoves
 pub mod ExactStarts
 pub mod Finished
 pub mod ReadersLeave
+pub use Rattle.aml_tree.proofs.aml_tokens as aml_tokens
+pub use Rattle.aml_tree.proofs as aml_tree

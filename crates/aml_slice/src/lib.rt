@@ -14,6 +14,7 @@ mod running;
 mod slices;
 mod starts;
 
+pub use aml_check::Checked;
 pub use controls::Control;
 pub use laws::{
     each_slice, one_moment, readers_leave, slices_add_up, slices_finish, transactions_begin,

@@ -4,3 +4,4 @@ pub mod Limits
 pub mod Programs
 pub mod Lines
 pub mod TreeRules
+pub use Rattle.aml_tokens.specs as aml_tokens

@@ -11,3 +11,4 @@ pub mod SubBatches
 pub mod Commits
 pub mod Slices
 pub mod Waiting
+pub use Rattle.book_part.proofs as book_part

@@ -2,7 +2,7 @@
 use Rattle.std.proofs.Common.{◌≡◌, ℕ, false, List, [], ◌∷◌, map, refl, ap, sym, ◌∙◌}
 use Rattle.snap_base.specs.declared.ids.Tid.{Tid}
 use Rattle.protocol.specs.Meant.{tid_number}
-use Rattle.order_book.specs.Asked.{AreLocksOf, locks_of}
+use Rattle.book_part.specs.order_book.Asked.{AreLocksOf, locks_of}
 use Rattle.protocol.specs.OnBook.{act_asked, met}
 use Rattle.protocol.specs.Parts.{Entry}
 use Rattle.protocol.specs.Rivals.{Lock}

@@ -4,7 +4,7 @@ use Rattle.std.proofs.lemmas.List.{length-map}
 use Rattle.std.proofs.lemmas.Option.{slice_get-get_or}
 use Rattle.snap_base.proofs.Lists.{one_at, get_mapped}
 use Rattle.aml_slice.specs.Controls.{Rest}
-use Rattle.core_rows.specs.OnRuns.{HasRun}
+use Rattle.snap_hand.specs.core_rows.OnRuns.{HasRun}
 use Rattle.crew_ends.specs.Ends.{AreBeside, AreDriven, AreDue, IsSomeEnd, log_at}
 use Rattle.crew_ends.specs.Lists.{HaveJournals, HaveOutput, besides_of, parts_of}
 use Rattle.crew_ends.proofs.OneOver.{mapped_from}

@@ -12,7 +12,7 @@ use Rattle.gate_log.specs.State.{LogState}
 use Rattle.gate_log.specs.declared.limits.TheConstants.{FARTHEST_END}
 use Rattle.protocol.specs.Fixed.{Fixed}
 use Rattle.protocol.specs.Runs.{opening}
-use Rattle.record_log.specs.declared.limits.TheConstants.{FARTHEST_APPEND}
+use Rattle.run_effects.specs.record_log.declared.limits.TheConstants.{FARTHEST_APPEND}
 use Rattle.snap_hand.specs.Shown.{Shown, AreAllParts}
 
 at_of : {X : Type 0} (P : X → Type 0) (xs : List X) (i : ℕ) (x : X) → AllByRecursion P xs → slice_get xs i ≡ Some x → P x

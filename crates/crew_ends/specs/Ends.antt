@@ -11,7 +11,7 @@ use Rattle.protocol.specs.Fixed.{Fixed}
 use Rattle.protocol.specs.Runs.{reached}
 use Rattle.run_effects.specs.Driven.{IsDriven}
 use Rattle.run_effects.specs.Groups.{group_behind, groups_of}
-use Rattle.txn_records.specs.declared.records.Record.{Record}
+use Rattle.snap_hand.specs.txn_records.declared.records.Record.{Record}
 
 -- ---- beside the shares
 

@@ -11,11 +11,10 @@ ghost use Rattle.snap_hand.specs.Tables.{AreTables, fixed_of};
 
 use crate::laying::lay_out;
 use crate::rooms::{Beginning, Room};
-use core_events::first_cell;
 use gate_log::{FARTHEST_END, Log};
 use snap_base::Memory;
 use snap_core::Core;
-use snap_hand::Tables;
+use snap_hand::{Tables, first_cell};
 use snap_outside::{LogDev, Sink};
 use std::alloc::Global;
 

@@ -7,10 +7,9 @@ ghost use Rattle.crew_parts.specs.Besides.{beside_log, beside_none};
 ghost use Rattle.crew_parts.specs.Shares.{output_seen};
 ghost use Rattle.snap_hand.specs.Shown.{shown};
 
-use core_events::{DESK, FIRST_LOG};
 use crew_parts::{Beside, Share};
 use gate_log::Log;
-use snap_hand::Part;
+use snap_hand::{DESK, FIRST_LOG, Part};
 use snap_outside::{LogDev, Sink};
 
 /// The shares of all parts, in the order of their numbers, in a list with room for them: beside the logs are their journals,

@@ -7,10 +7,9 @@ ghost use Rattle.gate_log.specs.State.{LogState};
 ghost use Rattle.snap_hand.specs.Shown.{shown};
 
 use crate::rooms::Room;
-use core_events::{DESK, FIRST_LOG};
 use crew_parts::{Beside, Share};
 use gate_log::Log;
-use snap_hand::{Hand, Part};
+use snap_hand::{DESK, FIRST_LOG, Hand, Part};
 use snap_outside::{LogDev, Sink};
 
 /// What shares are made of: the parts, with a hand for them; the journals and the output, and whether the output failed.

@@ -4,8 +4,8 @@ use Rattle.std.specs.List.{AllByRecursion}
 use Rattle.std.proofs.lemmas.Bool.Decides.{eqb_tells}
 use Rattle.snap_base.proofs.Options.{is_some_map}
 use Rattle.aml_slice.specs.Controls.{Rest}
-use Rattle.core_rows.specs.declared.step_no.StepNo.{StepNo}
-use Rattle.core_rows.specs.declared.step_no.StepNo.TheVariants.{NotNow, Memory}
+use Rattle.snap_hand.specs.core_rows.declared.step_no.StepNo.{StepNo}
+use Rattle.snap_hand.specs.core_rows.declared.step_no.StepNo.TheVariants.{NotNow, Memory}
 use Rattle.crew_parts.specs.Acts.{may_break}
 use Rattle.crew_parts.specs.Besides.{IsSound}
 use Rattle.crew_parts.specs.Crews.{Stands}

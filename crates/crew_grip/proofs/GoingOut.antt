@@ -9,7 +9,7 @@ use Rattle.aml_slice.specs.Controls.{Rest}
 use Rattle.core_events.specs.Meant.{event_meant}
 use Rattle.core_events.specs.declared.events.Event as code
 use Rattle.core_events.specs.declared.events.Event.TheVariants as events
-use Rattle.core_rows.specs.OnRuns.{HasRun}
+use Rattle.snap_hand.specs.core_rows.OnRuns.{HasRun}
 use Rattle.crew_parts.specs.Acts.{HasPrinted, JournalGoes, OutputGoes, Prints, groups_by, line_at, tried_by}
 use Rattle.crew_parts.specs.Besides.{HasAppended, HasBrokenOff, HasWritten, MayAppendTo, JournalBecame, OutputBecame, is_ready_journal, is_ready_output}
 use Rattle.crew_parts.specs.Crews.{Begins, JournalIs, Stands}
@@ -19,8 +19,8 @@ use Rattle.gate_log.specs.Device.{MayAppend}
 use Rattle.gate_log.specs.State.{LogState}
 use Rattle.gate_log.specs.declared.logs.AppendNo.{AppendNo}
 use Rattle.gate_log.specs.declared.logs.AppendNo.TheVariants as append
-use Rattle.run_effects.specs.Sizes.{most_bytes}
-use Rattle.log_set.specs.Shown.{told_bytes}
+use Rattle.crew_parts.specs.run_effects.Sizes.{most_bytes}
+use Rattle.snap_hand.specs.log_set.Shown.{told_bytes}
 use Rattle.protocol.specs.Conditions.{IsAllowed, refusal}
 use Rattle.protocol.specs.Effects.{log_at}
 use Rattle.protocol.specs.Events.{Event, Sync, Reply, book, desk, log}
@@ -30,15 +30,15 @@ use Rattle.protocol.specs.Records.{LogRecord}
 use Rattle.protocol.specs.Runs.{reached}
 use Rattle.protocol.specs.Verdicts.{verdict}
 use Rattle.protocol.specs.Words.{holds, is_among}
-use Rattle.record_log.specs.Growth.{MayAppendGroup, end_behind_groups}
-use Rattle.record_log.specs.Records.{spelled}
-use Rattle.record_log.specs.declared.limits.TheConstants.{FARTHEST_APPEND}
-use Rattle.log_set.specs.Told.{all_told}
-use Rattle.run_effects.specs.Appending.{IsAppended, IsCutOff}
-use Rattle.run_effects.specs.Driven.{IsDriven}
-use Rattle.run_effects.specs.RunsOf.{RunsOf}
-use Rattle.run_effects.specs.Groups.{group_by, groups_of, waiting}
-use Rattle.run_effects.specs.Lines.{line_in, verdict_line}
+use Rattle.crew_parts.specs.record_log.Growth.{MayAppendGroup, end_behind_groups}
+use Rattle.crew_parts.specs.record_log.Records.{spelled}
+use Rattle.crew_parts.specs.record_log.declared.limits.TheConstants.{FARTHEST_APPEND}
+use Rattle.snap_hand.specs.log_set.Told.{all_told}
+use Rattle.crew_parts.specs.run_effects.Appending.{IsAppended, IsCutOff}
+use Rattle.crew_parts.specs.run_effects.Driven.{IsDriven}
+use Rattle.crew_parts.specs.run_effects.RunsOf.{RunsOf}
+use Rattle.crew_parts.specs.run_effects.Groups.{group_by, groups_of, waiting}
+use Rattle.crew_parts.specs.run_effects.Lines.{line_in, verdict_line}
 use Rattle.snap_base.specs.declared.verdicts.Verdict.{Verdict}
 use Rattle.snap_base.specs.declared.ids.TxNo.{TxNo}
 use Rattle.snap_base.proofs.Options.{same_some, none_is_some}
@@ -49,7 +49,7 @@ use Rattle.snap_outside.proofs.AtFault.{no_call}
 use Rattle.snap_outside.specs.declared.schedules.Failed.{Failed}
 use Rattle.snap_report.specs.Lines.{reply_text}
 use Rattle.turn_table.specs.Places.{at}
-use Rattle.txn_records.specs.declared.records.Record.{Record}
+use Rattle.snap_hand.specs.txn_records.declared.records.Record.{Record}
 use Rattle.crew_grip.specs.Acted.{AreSound, BesideGoes, HasGoneOut, IsJust, IsOuter, why_of}
 use Rattle.crew_grip.specs.Grips.{GripState, IsGripOf, beside_in}
 use Rattle.crew_grip.specs.declared.results.NotDone.TheVariants as undone

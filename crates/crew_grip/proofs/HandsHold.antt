@@ -6,8 +6,8 @@ use Rattle.std.proofs.lemmas.List.{length-append, length-map}
 use Rattle.aml_slice.specs.Controls.{Rest}
 use Rattle.crew_parts.specs.Crews.{Stands}
 use Rattle.crew_parts.specs.Shares.{ShareState}
-use Rattle.log_set.specs.Shown.{ShowsLog}
-use Rattle.log_set.specs.Logs.{LogList}
+use Rattle.snap_hand.specs.log_set.Shown.{ShowsLog}
+use Rattle.snap_hand.specs.log_set.Logs.{LogList}
 use Rattle.protocol.specs.Fixed.{Fixed}
 use Rattle.protocol.specs.Parts.{Cell, Log, Machine}
 use Rattle.protocol.specs.Runs.{reached}

@@ -1,7 +1,7 @@
 -- An act that is recorded: it may happen on what is held, and what it made of that is held behind it.
 use Rattle.std.proofs.Common.{◌≡◌, ℕ, Bool, true, false, inl, inr, ◌||◌, is_some, List, [], ◌∷◌, map, Option, None, Some, ap, sym, subst, refl, ◌∙◌, true≢false}
 use Rattle.aml_slice.specs.Controls.{Rest}
-use Rattle.core_rows.specs.OnRuns.{HasRun}
+use Rattle.snap_hand.specs.core_rows.OnRuns.{HasRun}
 use Rattle.crew_parts.specs.Acts.{AreShown, EachGoes, Goes, behind}
 use Rattle.crew_parts.specs.Shares.{ShareState, share_of}
 use Rattle.protocol.specs.Conditions.{IsAllowed}

@@ -1,7 +1,7 @@
 -- What a worker holds of the shared parts, and that it is what its pass holds.
 use Rattle.std.specs.Prelude.{◌≡◌, ℕ, ◌+◌, Option, None, Some, option_map, List, length}
 use Rattle.aml_slice.specs.Controls.{Rest}
-use Rattle.atomic_table.specs.declared.shared.Seat.{Seat}
+use Rattle.crew_parts.specs.atomic_table.declared.shared.Seat.{Seat}
 use Rattle.crew_parts.specs.Acts.{MayDo, touched}
 use Rattle.crew_parts.specs.Crews.{Begins, Stands}
 use Rattle.crew_parts.specs.Shares.{BesideState, ShareState, share_of}

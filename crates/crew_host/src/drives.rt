@@ -8,7 +8,7 @@ ghost use Rattle.crew_host.specs.Drives.{IsCrewStop};
 ghost use Rattle.crew_host.specs.Stops.{IsStopBy};
 ghost use Rattle.crew_parts.specs.Crews.{Begins, HasCome, OutputIs, kept};
 ghost use Rattle.crew_parts.specs.Shares.{ShareState, output_seen};
-ghost use Rattle.snap_work.specs.declared.limits.TheConstants.{MOST_WORKERS};
+ghost use Rattle.snap_hand.specs.snap_work.declared.limits.TheConstants.{MOST_WORKERS};
 ghost use Rattle.protocol.specs.Events as machine;
 ghost use Rattle.run_effects.specs.declared.stops.Stop.TheVariants as stop;
 ghost use Rattle.snap_core.specs.Cores.{IsAt};

@@ -7,4 +7,6 @@ mod drives;
 mod happened;
 
 pub use drives::{CrewEnd, drive_crew};
-pub use snap_work::MOST_WORKERS;
+pub use gate_log::{FARTHEST_END, Log};
+pub use run_effects::Stop;
+pub use snap_hand::MOST_WORKERS;

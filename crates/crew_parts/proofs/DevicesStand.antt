@@ -18,13 +18,13 @@ use Rattle.protocol.specs.Moments.{IsUnderWay, Moment, NoneTouches}
 use Rattle.protocol.specs.Parts.{Machine}
 use Rattle.protocol.specs.Runs.{IsRun, reached}
 use Rattle.protocol.specs.Words.{holds, is_among}
-use Rattle.record_log.specs.Growth.{GrewBy, IsNextBegun, begun_groups, end_behind_groups}
+use Rattle.run_effects.specs.record_log.Growth.{GrewBy, IsNextBegun, begun_groups, end_behind_groups}
 use Rattle.run_effects.specs.Groups.{group_behind, group_by, groups_of, waiting}
 use Rattle.protocol.specs.Effects.{log_at}
 use Rattle.snap_outside.specs.Disk.{History, content, with_ops}
 use Rattle.snap_outside.specs.declared.devices.DevOp.{DevOp}
 use Rattle.turn_table.specs.Runs.{AllLeave, Run}
-use Rattle.txn_records.specs.declared.records.Record.{Record}
+use Rattle.snap_hand.specs.txn_records.declared.records.Record.{Record}
 use Rattle.crew_parts.proofs.LeftAlone.{groups_on, kept-append, left_alone, none_among, none_touches}
 use Rattle.crew_parts.proofs.Outsides.{grown_by}
 use Rattle.crew_parts.proofs.Shutting.{is_sync, shut_by, shuts, sync_is, there, touched_by_sync}

@@ -21,8 +21,8 @@ use Rattle.protocol.specs.Footprints.{HasLogs}
 use Rattle.protocol.specs.Parts.{Log, Machine}
 use Rattle.protocol.specs.Runs.{reached}
 use Rattle.protocol.specs.Words.{holds, is_among}
-use Rattle.protocol_theorems.specs.Left.{most_events}
-use Rattle.core_rows.proofs.Found.{held}
+use Rattle.machine_laws.specs.protocol_theorems.Left.{most_events}
+use Rattle.snap_hand.proofs.core_rows.Found.{held}
 use Rattle.run_effects.specs.Groups.{waiting}
 use Rattle.turn_table.specs.Places.{Ascending, Covers, Stand, count_if, numbers, replaced, values}
 use Rattle.turn_table.specs.Runs.{Run}

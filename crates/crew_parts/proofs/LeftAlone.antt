@@ -15,7 +15,7 @@ use Rattle.protocol.specs.Words.{is_among}
 use Rattle.run_effects.specs.Groups.{group_behind, group_by, groups_of, waiting}
 use Rattle.turn_table.specs.Places.{IsNoneOf}
 use Rattle.turn_table.specs.Runs.{AllLeave}
-use Rattle.txn_records.specs.declared.records.Record.{Record}
+use Rattle.snap_hand.specs.txn_records.declared.records.Record.{Record}
 use Rattle.crew_parts.proofs.Coming.{behind_one}
 use Rattle.crew_parts.proofs.Outsides.{no_group}
 use Rattle.crew_parts.proofs.PartsStay.{same_log_at}

@@ -26,7 +26,7 @@ use Rattle.run_effects.specs.Driven.{IsDriven}
 use Rattle.run_effects.proofs.Driving.{driven_join}
 use Rattle.snap_outside.specs.Causes.{Rose}
 use Rattle.snap_outside.proofs.AtFault.{calls_join}
-use Rattle.txn_records.specs.declared.records.Record.{Record}
+use Rattle.snap_hand.specs.txn_records.declared.records.Record.{Record}
 
 -- ---- journals
 

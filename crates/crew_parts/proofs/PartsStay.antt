@@ -1,7 +1,7 @@
 -- A part of a state is one of each state that has the same part under its number; and what waits on a log is the same then.
 use Rattle.std.proofs.Common.{◌≡◌, ℕ, zero, suc, ◌+◌, ◌-◌, ◌<◌, Option, None, Some, option_map, List, [], ◌∷◌, length, slice_get, get_or, refl, sym, ap, subst, ◌∙◌, arith}
 use Rattle.aml_slice.specs.Controls.{Rest}
-use Rattle.book_part.specs.Halves.{Shows}
+use Rattle.snap_hand.specs.book_part.Halves.{Shows}
 use Rattle.protocol.specs.Effects.{log_at, no_log}
 use Rattle.protocol.specs.Events.{Part, LogPart, CellPart, part, log}
 use Rattle.protocol.specs.Fixed.{Fixed}

@@ -5,12 +5,12 @@ use Rattle.snap_base.proofs.Options.{same_some}
 use Rattle.crew_parts.specs.Devices.{GrowsThrough}
 use Rattle.gate_log.specs.Appends.{append_ops}
 use Rattle.gate_log.specs.Opened.{beginning_ops}
-use Rattle.record_log.proofs.Growing.{ops_more}
-use Rattle.record_log.specs.Growth.{GrewBy, IsNextBegun, begun_groups, end_behind_groups, groups_ops}
-use Rattle.record_log.specs.Records.{spelled}
+use Rattle.run_effects.proofs.record_log.Growing.{ops_more}
+use Rattle.run_effects.specs.record_log.Growth.{GrewBy, IsNextBegun, begun_groups, end_behind_groups, groups_ops}
+use Rattle.run_effects.specs.record_log.Records.{spelled}
 use Rattle.snap_outside.specs.Disk.{History, AddsAll, content, with_ops}
 use Rattle.snap_outside.specs.declared.devices.DevOp.{DevOp}
-use Rattle.txn_records.specs.declared.records.Record.{Record}
+use Rattle.snap_hand.specs.txn_records.declared.records.Record.{Record}
 
 -- ---- histories
 

@@ -4,7 +4,7 @@ use Rattle.std.specs.Prelude.{◌≡◌, ℕ, ◌<◌, ◌≤◌, ◌==◌, if�
 use Rattle.std.specs.Io.KnownBytes.{Appends}
 use Rattle.aml_slice.specs.Controls.{Rest}
 use Rattle.core_events.specs.Meant.{event_meant}
-use Rattle.core_rows.specs.OnRuns.{HasRun}
+use Rattle.snap_hand.specs.core_rows.OnRuns.{HasRun}
 use Rattle.crew_parts.specs.Shares.{OutputState, ShareState, GetsNoMore}
 use Rattle.crew_parts.specs.declared.acts.Act.{Act}
 use Rattle.gate_log.specs.State.{LogState}
@@ -20,7 +20,7 @@ use Rattle.snap_hand.specs.Tables.{fixed_of, text_of}
 use Rattle.snap_hand.specs.declared.tables.Tables.{Tables}
 use Rattle.snap_outside.specs.Causes.{Rose}
 use Rattle.run_effects.specs.Driven.{IsDriven}
-use Rattle.txn_records.specs.declared.records.Record.{Record}
+use Rattle.snap_hand.specs.txn_records.declared.records.Record.{Record}
 
 abbrev pub meant : Act → Event
 meant a = event_meant a.event

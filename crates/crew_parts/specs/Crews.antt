@@ -3,7 +3,7 @@
 use Rattle.std.specs.Prelude.{◌≡◌, ℕ, ◌+◌, ◌<◌, ◌≤◌, if◌then◌else◌, Bool, true, false, Option, None, Some, List, [], ◌∷◌, ◌++◌, length, slice_get, ⊤}
 use Rattle.std.specs.Io.KnownBytes.{Appends}
 use Rattle.aml_slice.specs.Controls.{Rest}
-use Rattle.core_rows.specs.OnRuns.{HasRun}
+use Rattle.snap_hand.specs.core_rows.OnRuns.{HasRun}
 use Rattle.crew_parts.specs.Acts.{meant}
 use Rattle.crew_parts.specs.Shares.{OutputState, ShareState, GetsNoMore}
 use Rattle.crew_parts.specs.declared.acts.Act.{Act}
@@ -13,7 +13,7 @@ use Rattle.protocol.specs.Events.{Event, Reply, Sync, desk, log}
 use Rattle.protocol.specs.Fixed.{Fixed}
 use Rattle.protocol.specs.Parts.{Machine}
 use Rattle.protocol.specs.Runs.{IsRun, opening, reached}
-use Rattle.record_log.specs.declared.limits.TheConstants.{FARTHEST_APPEND}
+use Rattle.run_effects.specs.record_log.declared.limits.TheConstants.{FARTHEST_APPEND}
 use Rattle.run_effects.specs.Groups.{group_behind, groups_of}
 use Rattle.run_effects.specs.Lines.{line_in, replies_text}
 use Rattle.snap_hand.specs.Shown.{IsPartOf}

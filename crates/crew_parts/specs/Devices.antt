@@ -12,7 +12,7 @@ use Rattle.protocol.specs.Events.{Event, log}
 use Rattle.protocol.specs.Fixed.{Fixed}
 use Rattle.protocol.specs.Moments.{Moment}
 use Rattle.protocol.specs.Words.{holds}
-use Rattle.record_log.specs.Growth.{GrewBy, begun_groups, end_behind_groups}
+use Rattle.run_effects.specs.record_log.Growth.{GrewBy, begun_groups, end_behind_groups}
 use Rattle.run_effects.specs.Groups.{group_behind, groups_of}
 use Rattle.run_effects.specs.Made.{IsMade}
 use Rattle.snap_hand.specs.Tables.{fixed_of}
@@ -20,7 +20,7 @@ use Rattle.snap_hand.specs.declared.tables.Tables.{Tables}
 use Rattle.snap_outside.specs.Disk.{History, AddsAll, content, with_ops}
 use Rattle.snap_outside.specs.declared.devices.DevOp.{DevOp}
 use Rattle.turn_table.specs.Rule.{HoldsOn, IsEntry, IsLater, Kept}
-use Rattle.txn_records.specs.declared.records.Record.{Record}
+use Rattle.snap_hand.specs.txn_records.declared.records.Record.{Record}
 
 -- ---- what shares tell of a log
 

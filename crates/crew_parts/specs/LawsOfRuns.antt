@@ -2,7 +2,7 @@
 -- What the laws say of the runs of a text, on which the acts of a crew rest.
 use Rattle.std.specs.Prelude.{◌≡◌, ℕ, Some, List, ◌++◌}
 use Rattle.aml_slice.specs.Controls.{Rest}
-use Rattle.core_rows.specs.OnRuns.{HasRun}
+use Rattle.snap_hand.specs.core_rows.OnRuns.{HasRun}
 use Rattle.protocol.specs.Events.{Event}
 use Rattle.protocol.specs.Fixed.{Fixed}
 use Rattle.protocol.specs.Footprints.{HasLogs, LeavesOthers}

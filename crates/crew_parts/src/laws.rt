@@ -1,7 +1,7 @@
 //! What follows of a crew's acts. Each is called to cite it.
 ghost use Rattle.std.specs.Prelude.{◌≡◌, ◌+◌, ◌*◌, ◌<◌, ◌≤◌, Bool, true, List, Option, ℕ, length};
 ghost use Rattle.crew_parts.specs.Acts.{MayDo, touched};
-ghost use Rattle.core_rows.specs.OnRuns.{HasRun};
+ghost use Rattle.snap_hand.specs.core_rows.OnRuns.{HasRun};
 ghost use Rattle.crew_parts.specs.Crews.{Begins, HasCome, Stands, kept};
 ghost use Rattle.crew_parts.specs.Devices.{AreAtMoment, MayTell};
 ghost use Rattle.crew_parts.specs.LawsOfRuns.{LawsOfRuns};
@@ -11,7 +11,7 @@ ghost use Rattle.crew_parts.specs.Steps.{CrewTable, FindsMoment, HoldsForSync, I
 ghost use Rattle.snap_hand.specs.Tables.{AreTables, fixed_of, text_of};
 ghost use Rattle.protocol.specs.Events as machine;
 ghost use Rattle.protocol.specs.Runs.{IsRun, reached};
-ghost use Rattle.protocol_theorems.specs.Left.{most_events};
+ghost use Rattle.machine_laws.specs.protocol_theorems.Left.{most_events};
 ghost use Rattle.snap_outside.specs.Disk.{History};
 ghost use Rattle.turn_table.specs.Places.{Ascending, IsIdle};
 ghost use Rattle.turn_table.specs.Rule.{IsLater, Kept};

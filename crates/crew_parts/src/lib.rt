@@ -16,4 +16,5 @@ pub use laws::{
     acts_are_few, acts_are_runs, crashes_find_moments, devices_stand_at_moments, passes_have_room,
     passes_stand, runs_lead, steps_are_moments,
 };
+pub use run_effects::{appends_drive, runs_of};
 pub use shares::Share;

@@ -2,8 +2,8 @@
 
 use crate::rows::{Placed, serial_states};
 use crate::texts::{BY_HAND, TWO_ACTORS, drawn, tables_of, text_of};
-use core_events::Event;
 use snap_base::{ActorId, Bid, Memory, Place, State, TxResult};
+use snap_core::Event;
 use snap_outside::{FreeGate, Gate, MemLog, MemSink, MemSource};
 use snap_report::{Status, actor_line, end_line};
 use snap_run::{Outcome, run};

@@ -2,19 +2,15 @@
 
 ghost use Rattle.std.specs.Prelude.{◌≡◌, ◌+◌, ◌≤◌, ◌^◌, false, length, vec_len, IfOk};
 ghost use Rattle.std.specs.List.{AllByRecursion};
-ghost use Rattle.gate_log.specs.declared.limits.TheConstants.{FARTHEST_END};
-ghost use Rattle.snap_hand.specs.Tables.{AreTables};
-ghost use Rattle.snap_work.specs.declared.limits.TheConstants.{MOST_WORKERS};
+ghost use Rattle.crew_host.specs.gate_log.declared.limits.TheConstants.{FARTHEST_END};
+ghost use Rattle.snap_core.specs.snap_hand.Tables.{AreTables};
+ghost use Rattle.snap_core.specs.snap_work.declared.limits.TheConstants.{MOST_WORKERS};
 
 use crate::texts::{BY_HAND, TOTAL, drawn, tables_of, text_of};
 use aml_serial::run_alone;
-use core_events::Event;
-use crew_host::{CrewEnd, MOST_WORKERS, drive_crew};
-use gate_log::{FARTHEST_END, Log};
-use run_effects::Stop;
+use crew_host::{CrewEnd, FARTHEST_END, Log, MOST_WORKERS, Stop, drive_crew};
 use snap_base::{ActorId, Memory, Place, State, TxNo, TxResult, Verdict};
-use snap_core::{Core, StepNo};
-use snap_hand::Tables;
+use snap_core::{Core, Event, StepNo, Tables};
 use snap_outside::{FreeGate, Gate, MemLog, MemSink};
 use snap_report::reply_line;
 use std::alloc::Global;

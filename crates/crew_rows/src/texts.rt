@@ -1,18 +1,15 @@
 //! The texts of the runs.
 
 ghost use Rattle.std.specs.Prelude.{IfOk};
-ghost use Rattle.machine_text.specs.Texts.{MayBegin};
-ghost use Rattle.snap_hand.specs.Tables.{AreTables};
-ghost use Rattle.snap_work.specs.Kept.{KeepsLimits};
-ghost use Rattle.snap_work.specs.Works.{work_of};
+ghost use Rattle.snap_core.specs.machine_text.Texts.{MayBegin};
+ghost use Rattle.snap_core.specs.snap_hand.Tables.{AreTables};
+ghost use Rattle.snap_core.specs.snap_work.Kept.{KeepsLimits};
+ghost use Rattle.snap_core.specs.snap_work.Works.{work_of};
 
-use machine_text::works_are_texts;
 use rand_core::utils::NextWord;
 use rand_pcg::Pcg32;
 use snap_base::Memory;
-use snap_core::Tables;
-use snap_recover::{Opening, fresh};
-use snap_work::Work;
+use snap_core::{Opening, Tables, Work, fresh, works_are_texts};
 use std::alloc::Global;
 use std::test::Fail;
 use work_text::{parse_work, transactions_may_run};

@@ -4,20 +4,20 @@ use denote.Param.Send.{IsSync, recorded_sync, sendable, struct_sync, view_sync}
 use denote.Builtin.{u8, u16}
 use denote.Struct.Declared.{shape}
 use Rattle.std.proofs.Crossing.{crosses}
-use Rattle.aml_tokens.proofs.tokens.Word.TheSendSync as word
-use Rattle.aml_tree.proofs.trees.Block.TheSendSync as block
-use Rattle.aml_tree.proofs.trees.Expression.TheLaws.TheKnot as expression
-use Rattle.aml_tree.proofs.trees.Statement.TheLaws.TheKnot as statement
-use Rattle.aml_tree.specs.contracts.trees.Method as Method
-use Rattle.aml_tree.specs.contracts.trees.Program as Program
-use Rattle.aml_tree.specs.contracts.trees.Statement as Statement
-use Rattle.aml_check.specs.contracts.programs.Checked as Checked
-use Rattle.aml_check.specs.contracts.programs.Checked.TheInside as Inside
+use Rattle.snap_hand.proofs.aml_tokens.tokens.Word.TheSendSync as word
+use Rattle.snap_hand.proofs.aml_tree.trees.Block.TheSendSync as block
+use Rattle.snap_hand.proofs.aml_tree.trees.Expression.TheLaws.TheKnot as expression
+use Rattle.snap_hand.proofs.aml_tree.trees.Statement.TheLaws.TheKnot as statement
+use Rattle.snap_hand.specs.aml_tree.contracts.trees.Method as Method
+use Rattle.snap_hand.specs.aml_tree.contracts.trees.Program as Program
+use Rattle.snap_hand.specs.aml_tree.contracts.trees.Statement as Statement
+use Rattle.snap_hand.specs.aml_check.contracts.programs.Checked as Checked
+use Rattle.snap_hand.specs.aml_check.contracts.programs.Checked.TheInside as Inside
 use Rattle.snap_base.proofs.sequences.Sequence.TheSendSync as sequence
 use Rattle.snap_base.proofs.transactions.State.TheSendSync as state
 use Rattle.snap_base.proofs.transactions.Tx.TheSendSync as tx
 use Rattle.snap_hand.specs.contracts.tables.Tables as Tables
-use Rattle.snap_recover.proofs.openings.Opening.TheSendSync as opening
+use Rattle.snap_hand.proofs.snap_recover.openings.Opening.TheSendSync as opening
 use Rattle.snap_work.specs.contracts.works.Work as Work
 
 statement_sync : IsSync (Statement.the_row u8 u16)

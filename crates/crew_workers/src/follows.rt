@@ -2,14 +2,10 @@
 //! others.
 ghost use Rattle.snap_hand.specs.Tables.{AreTables};
 
-use aml_slice::Control;
-use batch_table::Desk;
-use book_part::BookPart;
 use core_events::{BOOK, DESK, Event, POST};
-use post_box::Post;
 use ready_listing::{list_place, list_ring, push_one, push_two};
 use snap_base::{ActorId, Bid, Memory, Tid, TxNo, Who};
-use snap_hand::{Hand, Tables};
+use snap_hand::{BookPart, Control, Desk, Hand, Post, Tables};
 use snap_work::MOST_BATCHES;
 use std::alloc::Global;
 

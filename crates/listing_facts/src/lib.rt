@@ -5,4 +5,7 @@
 
 mod listings;
 
+pub use batch_table::Desk;
+pub use book_part::BookPart;
 pub use listings::{parts_list_all, run_parts_list_all};
+pub use post_box::Post;

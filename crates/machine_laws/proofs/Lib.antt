@@ -7,3 +7,4 @@ pub mod Naming
 pub mod Askings
 pub mod MachineFacts
 pub mod Executions
+pub use Rattle.protocol_theorems.proofs as protocol_theorems

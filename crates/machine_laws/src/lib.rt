@@ -25,6 +25,7 @@ pub use laws::{
     runs_that_cannot_go_on_have_answered, told_transactions_are_in_order, verdicts_are_as_meant,
     verdicts_have_evidence, verdicts_tell_of_serial_runs, who_has_ended_has_a_verdict,
 };
+pub use protocol_theorems::sizes_hold;
 pub use records::{
     marks_are_durable, next_numbers_are_above_all, records_are_added_once, records_are_few,
     records_tell_what_is,

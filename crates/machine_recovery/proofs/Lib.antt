@@ -1,1 +1,2 @@
 pub mod Programs
+pub use Rattle.recovery_laws.proofs as recovery_laws

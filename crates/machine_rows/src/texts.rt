@@ -1,16 +1,14 @@
 //! The texts of the rows.
 
 ghost use Rattle.std.specs.Prelude.{IfOk};
-ghost use Rattle.machine_text.specs.Texts.{MayBegin};
+ghost use Rattle.snap_hand.specs.machine_text.Texts.{MayBegin};
 ghost use Rattle.snap_hand.specs.Tables.{AreTables};
-ghost use Rattle.snap_work.specs.Kept.{KeepsLimits};
-ghost use Rattle.snap_work.specs.Works.{work_of};
+ghost use Rattle.snap_hand.specs.snap_work.Kept.{KeepsLimits};
+ghost use Rattle.snap_hand.specs.snap_work.Works.{work_of};
 
-use machine_text::works_are_texts;
 use snap_base::{Bid, Memory, Sequence, Tid};
 use snap_core::Tables;
-use snap_recover::Opening;
-use snap_work::Work;
+use snap_hand::{Opening, Work, works_are_texts};
 use std::alloc::Global;
 use std::test::Fail;
 use work_text::{parse_work, transactions_may_run};

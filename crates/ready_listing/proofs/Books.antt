@@ -1,6 +1,6 @@
 -- What the book at hand lists.
 use Rattle.std.proofs.Common.{◌≡◌, ◌++◌, Option, Some, Result, Ok, Err, OnOk, List, map, sym, ap, ◌∙◌}
-use Rattle.book_part.specs.Halves.{Halves, Shows}
+use Rattle.listing_facts.specs.book_part.Halves.{Halves, Shows}
 use Rattle.core_events.specs.Meant.{event_meant}
 use Rattle.core_events.specs.declared.events.Event as code
 use Rattle.protocol.specs.Parts.{Book}

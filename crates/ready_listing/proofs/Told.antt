@@ -3,11 +3,11 @@ use Rattle.std.specs.List.{flat_map}
 use Rattle.std.proofs.Common.{◌≡◌, ℕ, Bool, Contains, Some, List, [], ◌∷◌, ◌++◌, map, slice_get, refl}
 use Rattle.std.proofs.lemmas.List.Elements.{Contains-append_left, Contains-append_right}
 use Rattle.aml_slice.specs.Controls.{Rest}
-use Rattle.batch_table.specs.Listed.{actors_in, going_batches, unreplied_below}
-use Rattle.book_part.specs.Listed.{live_tids}
-use Rattle.hybrid_schedule.specs.Listed.{incomplete_on, undone_on}
+use Rattle.listing_facts.specs.batch_table.Listed.{actors_in, going_batches, unreplied_below}
+use Rattle.listing_facts.specs.book_part.Listed.{live_tids}
+use Rattle.listing_facts.specs.hybrid_schedule.Listed.{incomplete_on, undone_on}
 use Rattle.listing_facts.specs.Listing.{PostLists, CellLists, DeskLists, BookLists, AnswersList}
-use Rattle.post_box.specs.Listed.{control_places, sub_places}
+use Rattle.listing_facts.specs.post_box.Listed.{control_places, sub_places}
 use Rattle.protocol.specs.Events.{Event, Arrive, Ask, Take, Run, Send, End, Close, Complete, Note, Commit, Settle, Abort, Rollback, DropSub, DropControl, Prepare, Vouch, Decide, Seal, Finish, Reply, Trim}
 use Rattle.protocol.specs.Parts.{Book, Post, Desk, Cell}
 use Rattle.protocol.specs.Words.{act_of, batch_of}

@@ -9,8 +9,8 @@ use Rattle.std.proofs.lemmas.Option.{same_Some, slice_get_within}
 use Rattle.snap_base.proofs.Options.{is_no_none}
 use Rattle.snap_base.proofs.Lists.{one_at}
 use Rattle.aml_slice.specs.Controls.{Rest}
-use Rattle.book_part.specs.Halves.{Halves}
-use Rattle.batch_table.specs.Listed.{is_unreplied, unreplied_below}
+use Rattle.listing_facts.specs.book_part.Halves.{Halves}
+use Rattle.listing_facts.specs.batch_table.Listed.{is_unreplied, unreplied_below}
 use Rattle.listing_facts.specs.Listing.{PostLists, CellLists, DeskLists, BookLists, AnswersList}
 use Rattle.protocol.specs.Conditions.{epoch}
 use Rattle.protocol.specs.Events.{Event, Submit, Pass, Form, Admit, Arrive, Ask, Take, Run, Send, End, Close, Complete, Sync, Note, Commit, Settle, Abort, Rollback, DropSub, DropControl, Prepare, Vouch, Decide, Seal, Finish, Reply, Trim, footprint, ring, book, post, desk, cell}

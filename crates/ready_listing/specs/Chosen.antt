@@ -2,7 +2,7 @@
 use Rattle.std.specs.Prelude.{Bool, List, Contains, ◌⊎◌}
 use Rattle.std.specs.List.{list_all}
 use Rattle.aml_slice.specs.Controls.{Rest}
-use Rattle.core_rows.specs.OnRuns.{HasRun}
+use Rattle.snap_hand.specs.core_rows.OnRuns.{HasRun}
 use Rattle.protocol.specs.Conditions.{IsAllowed}
 use Rattle.protocol.specs.Events.{Event, footprint}
 use Rattle.protocol.specs.Fixed.{Fixed}

@@ -1,3 +1,4 @@
 pub mod Listed
 pub mod Chosen
 pub mod Offers
+pub use Rattle.ready_list.specs as ready_list

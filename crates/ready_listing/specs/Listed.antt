@@ -2,12 +2,12 @@
 use Rattle.std.specs.Prelude.{◌≡◌, ℕ, ◌+◌, ◌%◌, Option, Some, None, List, [], ◌∷◌, ◌++◌, length, map, slice_get}
 use Rattle.std.specs.List.{flat_map}
 use Rattle.aml_slice.specs.Controls.{Rest}
-use Rattle.batch_table.specs.Listed.{actors_in, going_batches, unreplied_below}
-use Rattle.book_part.specs.Listed.{live_tids}
+use Rattle.listing_facts.specs.batch_table.Listed.{actors_in, going_batches, unreplied_below}
+use Rattle.listing_facts.specs.book_part.Listed.{live_tids}
 use Rattle.core_events.specs.Meant.{event_meant}
 use Rattle.core_events.specs.declared.events.Event as code
-use Rattle.hybrid_schedule.specs.Listed.{incomplete_on, undone_on}
-use Rattle.post_box.specs.Listed.{control_places, sub_places}
+use Rattle.listing_facts.specs.hybrid_schedule.Listed.{incomplete_on, undone_on}
+use Rattle.listing_facts.specs.post_box.Listed.{control_places, sub_places}
 use Rattle.protocol.specs.Events.{Event, Submit, Pass, Form, Admit, Arrive, Ask, Take, Run, Send, End, Close, Complete, Sync, Note, Commit, Settle, Abort, Rollback, DropSub, DropControl, Prepare, Vouch, Decide, Seal, Finish, Reply, Trim}
 use Rattle.protocol.specs.Fixed.{Text}
 use Rattle.protocol.specs.Parts.{Ring, Book, Post, Desk, Cell}

@@ -18,3 +18,4 @@ pub use of_others::{list_logs, list_next, list_replies, list_ring, list_unreplie
 pub use of_post::{list_controls, list_messages, list_post, list_subs};
 pub use offering::offers;
 pub use pushing::{push_one, push_three, push_two};
+pub use ready_list::ReadyList;

@@ -1,14 +1,14 @@
 //! What ACTs wait for. Each clause is about whatever book the part shows.
 ghost use Rattle.std.specs.Prelude.{◌≡◌, Some, map, OnOk};
 ghost use Rattle.std.specs.List.{flat_map};
-ghost use Rattle.book_part.specs.Halves.{Halves, Shows};
+ghost use Rattle.listing_facts.specs.book_part.Halves.{Halves, Shows};
 ghost use Rattle.ready_listing.specs.Listed.{Adds, of_act, of_joined, of_some, on_book};
 ghost use Rattle.protocol.specs.Meant.{actor_number, tid_number};
 ghost use Rattle.protocol.specs.Parts.{Book};
 
 use crate::pushing::{push_three, push_two};
-use book_part::BookPart;
 use core_events::{BOOK, Event};
+use listing_facts::BookPart;
 use snap_base::{ActorId, Memory, Tid};
 use snap_hand::Hand;
 use std::alloc::Global;

@@ -5,8 +5,8 @@ ghost use Rattle.ready_listing.specs.Listed.{Adds, of_batch, of_declared, of_som
 ghost use Rattle.protocol.specs.Meant.{actor_number};
 
 use crate::pushing::{push_three, push_two};
-use batch_table::Desk;
 use core_events::{DESK, Event};
+use listing_facts::Desk;
 use snap_base::{ActorId, Bid, Memory};
 use snap_hand::Hand;
 use std::alloc::Global;

@@ -9,10 +9,9 @@ ghost use Rattle.snap_hand.specs.Tables.{AreTables, fixed_of};
 
 use crate::pushing::{push_one, push_two};
 use aml_slice::Control;
-use cell_part::CellPart;
 use core_events::Event;
 use snap_base::{ActorId, Bid, Memory, Tid};
-use snap_hand::{Hand, Tables};
+use snap_hand::{CellPart, Hand, Tables};
 use std::alloc::Global;
 
 fn list_waiting(a: ActorId, tids: &[Tid], events: &mut Vec<Event>) -> Result<(), Memory>

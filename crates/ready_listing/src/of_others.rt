@@ -8,9 +8,8 @@ ghost use Rattle.snap_hand.specs.Tables.{AreTables, text_of};
 use crate::pushing::{push_one, push_two};
 use core_events::{DESK, Event, RING};
 use snap_base::{Memory, TxNo};
-use snap_hand::{Hand, Tables};
+use snap_hand::{Hand, Ring, Tables};
 use std::alloc::Global;
-use token_ring::Ring;
 
 /// Who has the token after this one.
 fn next_holder(tables: &Tables, holder: u8) -> u8

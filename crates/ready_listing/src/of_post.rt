@@ -2,12 +2,12 @@
 ghost use Rattle.std.specs.Prelude.{map, OnOk};
 ghost use Rattle.std.specs.List.{flat_map};
 ghost use Rattle.ready_listing.specs.Listed.{Adds, of_control, of_some, of_sub, on_post};
-ghost use Rattle.post_box.specs.Listed.{control_listed, sub_listed};
+ghost use Rattle.listing_facts.specs.post_box.Listed.{control_listed, sub_listed};
 
 use crate::pushing::{push_three, push_two};
 use aml_slice::Control;
 use core_events::{Event, POST};
-use post_box::Post;
+use listing_facts::Post;
 use snap_base::{ActorId, Bid, Memory, Tid};
 use snap_hand::Hand;
 use std::alloc::Global;

@@ -1,6 +1,6 @@
 //! All that the parts at hand list, and what is allowed of it.
 ghost use Rattle.std.specs.Prelude.{◌≡◌, Some, map, IfOk};
-ghost use Rattle.book_part.specs.Halves.{Halves, Shows};
+ghost use Rattle.listing_facts.specs.book_part.Halves.{Halves, Shows};
 ghost use Rattle.core_events.specs.Meant.{event_meant};
 ghost use Rattle.ready_listing.specs.Listed.{on_hand};
 ghost use Rattle.ready_listing.specs.Offers.{AreOffers};

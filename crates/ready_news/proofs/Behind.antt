@@ -2,7 +2,7 @@
 use Rattle.std.specs.Prelude.{Bool, List}
 use Rattle.std.proofs.Common.{sym, subst}
 use Rattle.aml_slice.specs.Controls.{Rest}
-use Rattle.core_rows.specs.OnRuns.{HasRun}
+use Rattle.snap_hand.specs.core_rows.OnRuns.{HasRun}
 use Rattle.listing_facts.specs.Listing.{BookLists, ListsAreEnough}
 use Rattle.protocol.specs.Conditions.{IsAllowed}
 use Rattle.protocol.specs.Effects.{after}

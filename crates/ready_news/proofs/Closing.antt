@@ -3,7 +3,7 @@ use Rattle.std.specs.Prelude.{◌≡◌, refl, ℕ, ◌+◌, ◌≤◌, ◌==◌
 use Rattle.std.specs.List.{list_any, AllByRecursion}
 use Rattle.std.proofs.Common.{arith, sym, ap, subst, ◌∙◌}
 use Rattle.std.proofs.lemmas.Bool.{and_parts, eqb-true}
-use Rattle.batch_table.specs.Listed.{actors_in}
+use Rattle.listing_facts.specs.batch_table.Listed.{actors_in}
 use Rattle.protocol.specs.Numbers.{flat, times, one_if}
 use Rattle.protocol.specs.Parts.{OfBatch, Pact, Batch, Slot, Entry, BatchEntry, ActEntry}
 use Rattle.protocol.specs.Words.{batch_of, declared_of, has_undone, holds, is_entry_of, is_undone, names_pact, who_of, who_on}

@@ -15,7 +15,7 @@ use Rattle.protocol.specs.Spread.{raised, carried, reaches, is_crossed, crossed_
 use Rattle.protocol.specs.Words.{is_empty, holds, act_of, is_doomed, is_sealed, is_live_status, is_live_act}
 use Rattle.protocol_ready.proofs.Listing.{Has, from_has, to_has, has_map, has_filter, any_of}
 use Rattle.protocol_records.specs.Overs.{EndsWhole}
-use Rattle.order_book.specs.Asked.{tx_of}
+use Rattle.book_part.specs.order_book.Asked.{tx_of}
 use Rattle.ready_news.specs.GivenUp.{given_up_tids}
 use Rattle.ready_news.specs.InAnswers.{replies_of, of_tx, of_given_up}
 use Rattle.ready_news.proofs.Cascading.{falls}

@@ -21,7 +21,7 @@ use Rattle.protocol.specs.Words.{holds, act_of}
 use Rattle.protocol_ready.specs.Telling.{AnswersTell}
 use Rattle.protocol_ready.specs.Touched.{is_touched, asked_verdict}
 use Rattle.protocol_ready.proofs.Listing.{Has, any_of, from_has, has_map}
-use Rattle.order_book.specs.Asked.{tx_of}
+use Rattle.book_part.specs.order_book.Asked.{tx_of}
 use Rattle.ready_news.specs.InAnswers.{of_tx, of_txs, of_given_up, of_later, of_batches, of_acts, by_answers}
 use Rattle.ready_news.specs.New.{is_new}
 use Rattle.ready_news.proofs.AfterRuns.{Holding, on_schedule}

@@ -10,7 +10,7 @@ use Rattle.protocol.specs.Effects.{after, cell_at, no_cell, puts}
 use Rattle.protocol.specs.Events.{Event, Form, Arrive, Ask, Take, Run, Send, End, Close, Complete, Abort, Rollback, Finish, Trim}
 use Rattle.protocol.specs.Fixed.{Fixed}
 use Rattle.protocol.specs.Laws.{AfterEveryRun}
-use Rattle.core_rows.specs.OnRuns.{HasRun}
+use Rattle.snap_hand.specs.core_rows.OnRuns.{HasRun}
 use Rattle.protocol.specs.OnCell.{outcome_taken}
 use Rattle.protocol.specs.OnDesk.{new_batch}
 use Rattle.protocol.specs.OnRing.{next_actors, next_pacts, numbered}
@@ -21,7 +21,7 @@ use Rattle.protocol.specs.Words.{batch_of, below, has_undone, holds, is_ended, i
 use Rattle.protocol_laws.specs.FromDesk.{EntryOf, FromDesk}
 use Rattle.protocol_laws.proofs.first.Times.{times_append}
 use Rattle.protocol_laws.proofs.machine.AllGood.{all_good}
-use Rattle.batch_table.specs.Listed.{actors_in}
+use Rattle.listing_facts.specs.batch_table.Listed.{actors_in}
 use Rattle.protocol_laws.specs.Ranges.{BatchInRange, IsDrawnTid, NumbersInRange}
 use Rattle.protocol_laws.proofs.first.Controls.{at_most_one}
 use Rattle.protocol_theorems.specs.Sizes.{SizesHold}

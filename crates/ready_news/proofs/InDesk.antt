@@ -7,8 +7,8 @@ use Rattle.std.proofs.lemmas.List.Elements.{Contains-append_left, Contains-appen
 use Rattle.aml_slice.specs.Controls.{Rest}
 use Rattle.snap_base.specs.declared.ids.Bid.{Bid}
 use Rattle.snap_base.proofs.Booleans.{either_way, not_so}
-use Rattle.batch_table.specs.Askings.{is_next, awaits_settling}
-use Rattle.batch_table.specs.Listed.{actors_in, is_number, is_unnoted, unnoted_at, unnoted_in, unnoted_on}
+use Rattle.listing_facts.specs.batch_table.Askings.{is_next, awaits_settling}
+use Rattle.listing_facts.specs.batch_table.Listed.{actors_in, is_number, is_unnoted, unnoted_at, unnoted_in, unnoted_on}
 use Rattle.ready_listing.specs.Listed.{of_batch, of_declared, on_desk}
 use Rattle.ready_listing.proofs.Lists.{first_of_all, placed, in_flat_map}
 use Rattle.ready_listing.proofs.Told.{desk_lists}

@@ -16,8 +16,8 @@ use Rattle.protocol.specs.Words.{act_of, control_of, has_control_to, holds, is_d
 use Rattle.protocol_ready.proofs.Listing.{Has, from_has, has_filter, has_flat_map, has_map, held, some, found_in}
 use Rattle.protocol_ready.proofs.Offered.{sub_found}
 use Rattle.protocol_ready.proofs.TouchedListed.{no}
-use Rattle.post_box.specs.Listed.{control_places, places_to, sub_places}
-use Rattle.post_box.specs.Posting.{message_to}
+use Rattle.listing_facts.specs.post_box.Listed.{control_places, places_to, sub_places}
+use Rattle.listing_facts.specs.post_box.Posting.{message_to}
 use Rattle.ready_listing.specs.Listed.{of_control, of_sub, on_post}
 use Rattle.ready_news.specs.InPost.{of_arrival, of_coming, of_target, arrivals_to, comings_to, on_control}
 

@@ -11,7 +11,7 @@ use Rattle.protocol.specs.Events.{Event, Submit, Pass, Form, Admit, Complete, Sy
 use Rattle.protocol.specs.Fixed.{Fixed}
 use Rattle.protocol.specs.Footprints.{HasLogs}
 use Rattle.protocol.specs.Laws.{AfterEveryRun}
-use Rattle.core_rows.specs.OnRuns.{HasRun}
+use Rattle.snap_hand.specs.core_rows.OnRuns.{HasRun}
 use Rattle.protocol.specs.Parts.{Ring, Log, Machine}
 use Rattle.protocol.specs.Words.{below, count, is_empty, is_live_act, is_live_batch}
 use Rattle.protocol_ready.specs.Telling.{RingTells, LogTells}

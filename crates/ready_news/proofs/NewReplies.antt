@@ -17,8 +17,8 @@ use Rattle.protocol.specs.Parts.{Act, Book, Cascade, Batch, Desk, Outcome, Machi
 use Rattle.protocol.specs.Verdicts.{or_else, verdict, verdict_of_pact, verdict_of_act}
 use Rattle.protocol.specs.Words.{holds, act_of, batch_of, has_act, outcome_of, is_settled}
 use Rattle.protocol_ready.specs.Touched.{is_touched}
-use Rattle.batch_table.specs.Listed.{txs_at}
-use Rattle.order_book.specs.Asked.{tx_of}
+use Rattle.listing_facts.specs.batch_table.Listed.{txs_at}
+use Rattle.book_part.specs.order_book.Asked.{tx_of}
 use Rattle.ready_news.specs.InAnswers.{replies_of, of_tx, of_txs}
 use Rattle.ready_news.specs.New.{is_new}
 use Rattle.ready_news.proofs.Common.{new_was_refused}

@@ -14,8 +14,8 @@ use Rattle.protocol.specs.OnBook as book
 use Rattle.protocol.specs.Words.{covers, act_of, batch_of, is_settled}
 use Rattle.protocol.specs.Verdicts.{or_else, settled_verdict, pact_place, pact_verdict, act_verdict, verdict_in_batch, verdict_of_pact, verdict_of_act}
 use Rattle.protocol_theorems.proofs.quiet.QuietEnd.{has_ended}
-use Rattle.batch_table.specs.Listed.{txs_at}
-use Rattle.order_book.specs.Asked.{tx_of}
+use Rattle.listing_facts.specs.batch_table.Listed.{txs_at}
+use Rattle.book_part.specs.order_book.Asked.{tx_of}
 use Rattle.protocol_ready.proofs.Listing.{Has, from_has, has_map, any_of}
 
 -- ---- two that may tell

@@ -1,9 +1,9 @@
 -- What is listed of replies after an event: of the transactions that it may have given a verdict.
 use Rattle.std.specs.Prelude.{ℕ, ◌-◌, Option, Some, None, List, [], ◌∷◌, ◌++◌}
 use Rattle.std.specs.List.{flat_map}
-use Rattle.batch_table.specs.Listed.{txs_at}
+use Rattle.listing_facts.specs.batch_table.Listed.{txs_at}
 use Rattle.ready_listing.specs.Listed.{of_reply}
-use Rattle.order_book.specs.Asked.{tx_of}
+use Rattle.book_part.specs.order_book.Asked.{tx_of}
 use Rattle.protocol.specs.Events.{Event, Form, Arrive, Ask, End, Settle, Abort, Decide, Seal, Reply}
 use Rattle.protocol.specs.Numbers.{from}
 use Rattle.protocol.specs.Parts.{Book, Desk}

@@ -2,7 +2,7 @@
 use Rattle.std.specs.Prelude.{ℕ, Bool, false, if◌then◌else◌, Option, Some, None, is_some, List, [], ◌∷◌, length, slice_get}
 use Rattle.std.specs.List.{flat_map}
 use Rattle.aml_slice.specs.Controls.{Rest}
-use Rattle.batch_table.specs.Listed.{actors_in}
+use Rattle.listing_facts.specs.batch_table.Listed.{actors_in}
 use Rattle.ready_listing.specs.Listed.{on_place}
 use Rattle.protocol.specs.Events.{Event, Arrive, Ask, Take, Run, End, Close, Complete, Abort, Rollback, Finish, Trim}
 use Rattle.protocol.specs.Parts.{Who, OfBatch, OfAct, Desk, Cell}

@@ -2,7 +2,7 @@
 use Rattle.std.specs.Prelude.{ℕ, Option, Some, None, List, [], ◌∷◌, ◌++◌}
 use Rattle.std.specs.List.{flat_map}
 use Rattle.snap_base.specs.declared.ids.Bid.{Bid}
-use Rattle.batch_table.specs.Listed.{unnoted_on}
+use Rattle.listing_facts.specs.batch_table.Listed.{unnoted_on}
 use Rattle.ready_listing.specs.Listed.{of_batch, on_desk}
 use Rattle.protocol.specs.Events.{Event, Form, End, Sync, Note, Commit, Settle, Abort, Trim}
 use Rattle.protocol.specs.Parts.{Desk}

@@ -5,8 +5,8 @@ use Rattle.std.specs.List.{flat_map}
 use Rattle.std.specs.Option.{option_map}
 use Rattle.aml_slice.specs.Controls.{Rest}
 use Rattle.ready_listing.specs.Listed.{of_control, on_post}
-use Rattle.post_box.specs.Listed.{control_places, places_to, sub_places}
-use Rattle.post_box.specs.Posting.{message_to}
+use Rattle.listing_facts.specs.post_box.Listed.{control_places, places_to, sub_places}
+use Rattle.listing_facts.specs.post_box.Posting.{message_to}
 use Rattle.protocol.specs.Events.{Event, Form, Admit, Arrive, Ask, Take, Send, Abort, Rollback, DropControl, Finish}
 use Rattle.protocol.specs.Parts.{Book, Post}
 use Rattle.protocol.specs.Words.{control_of}

@@ -6,3 +6,4 @@ pub mod InAnswers
 pub mod InRing
 pub mod InPost
 pub mod InCells
+pub use Rattle.ready_listing.specs as ready_listing

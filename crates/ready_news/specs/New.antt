@@ -3,7 +3,7 @@ use Rattle.std.specs.Prelude.{◌==◌, Bool, not, ◌&&◌, List, map, Contains
 use Rattle.aml_slice.specs.Controls.{Rest}
 use Rattle.core_events.specs.Meant.{event_meant}
 use Rattle.core_events.specs.declared.events.Event as code
-use Rattle.core_rows.specs.OnRuns.{HasRun}
+use Rattle.snap_hand.specs.core_rows.OnRuns.{HasRun}
 use Rattle.protocol.specs.Conditions.{IsAllowed, refusal}
 use Rattle.protocol.specs.Effects.{after}
 use Rattle.protocol.specs.Events.{Event}

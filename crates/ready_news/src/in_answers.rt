@@ -7,7 +7,7 @@ ghost use Rattle.book_part.specs.Halves.{Shows};
 ghost use Rattle.core_events.specs.Meant.{event_meant};
 ghost use Rattle.ready_listing.specs.Listed.{Adds};
 ghost use Rattle.protocol.specs.Meant.{tid_number};
-ghost use Rattle.order_book.specs.Fates.{tx_number};
+ghost use Rattle.book_part.specs.order_book.Fates.{tx_number};
 ghost use Rattle.protocol.specs.Effects.{after};
 ghost use Rattle.protocol.specs.Parts.{Book, Machine};
 ghost use Rattle.protocol_ready.specs.Telling.{AnswersTell};
@@ -18,13 +18,12 @@ ghost use Rattle.ready_news.specs.InAnswers.{of_acts_with, of_batches, of_later,
 ghost use Rattle.ready_news.specs.New.{IsBehind, Keeps, is_new};
 
 use aml_slice::Control;
-use batch_table::Desk;
 use book_part::BookPart;
 use core_events::Event;
-use core_rows::runs_go_on;
+use listing_facts::Desk;
 use ready_listing::{list_unreplied, push_one};
 use snap_base::{Bid, Memory, Tid, TxNo};
-use snap_hand::{Hand, Tables};
+use snap_hand::{Hand, Tables, runs_go_on};
 use std::alloc::Global;
 
 fn push_reply(tx: Option<TxNo>, events: &mut Vec<Event>) -> Result<(), Memory>

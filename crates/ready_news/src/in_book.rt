@@ -21,12 +21,11 @@ use crate::in_sync::list_synced;
 use aml_slice::Control;
 use book_part::{BookPart, unbegun_acts_wait_for_nothing};
 use core_events::Event;
-use core_rows::runs_go_on;
 use listing_facts::run_parts_list_all;
 use protocol_laws::allowed_or_refused;
 use ready_listing::push_one;
 use snap_base::{ActorId, Memory, Tid, Who};
-use snap_hand::{Hand, Tables};
+use snap_hand::{Hand, Tables, runs_go_on};
 use std::alloc::Global;
 
 pub(crate) fn push_if(due: bool, e: Event, events: &mut Vec<Event>) -> Result<(), Memory>

@@ -3,7 +3,7 @@ ghost use Rattle.std.specs.Prelude.{◌≡◌, is_some, Some, ℕ, map, slice_ge
 ghost use Rattle.std.specs.List.{flat_map};
 ghost use Rattle.std.specs.Option.{option_map};
 ghost use Rattle.aml_slice.specs.Controls.{Rest};
-ghost use Rattle.batch_table.specs.Listed.{actors_in};
+ghost use Rattle.listing_facts.specs.batch_table.Listed.{actors_in};
 ghost use Rattle.core_events.specs.Meant.{event_meant};
 ghost use Rattle.ready_listing.specs.Listed.{Adds, on_place};
 ghost use Rattle.protocol.specs.Meant.{actor_number, who_meant};
@@ -19,15 +19,13 @@ ghost use Rattle.ready_news.specs.New.{IsBehind, Keeps, is_new};
 
 use crate::in_book::push_if;
 use aml_slice::Control;
-use batch_table::Desk;
 use core_events::Event;
-use core_rows::runs_go_on;
-use listing_facts::parts_list_all;
+use listing_facts::{Desk, parts_list_all};
 use protocol_laws::{allowed_or_refused, numbers_are_drawn_once, numbers_are_in_range};
 use protocol_theorems::sizes_hold;
 use ready_listing::{actor_count, list_place, push_one};
 use snap_base::{ActorId, Bid, Memory, Tid, Who};
-use snap_hand::{Hand, Tables};
+use snap_hand::{Hand, Tables, runs_go_on};
 use std::alloc::Global;
 
 /// The actor whose cell the event changes, where it is not only that something comes or goes.

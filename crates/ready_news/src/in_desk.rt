@@ -2,7 +2,7 @@
 ghost use Rattle.std.specs.Prelude.{◌≡◌, ◌≤◌, ◌++◌, map, OnOk};
 ghost use Rattle.std.specs.List.{flat_map};
 ghost use Rattle.aml_slice.specs.Controls.{Rest};
-ghost use Rattle.batch_table.specs.Listed.{unnoted_on, unnoted_shown};
+ghost use Rattle.listing_facts.specs.batch_table.Listed.{unnoted_on, unnoted_shown};
 ghost use Rattle.core_events.specs.Meant.{event_meant};
 ghost use Rattle.ready_listing.specs.Listed.{Adds, of_batch};
 ghost use Rattle.protocol.specs.Effects.{after};
@@ -14,9 +14,8 @@ ghost use Rattle.ready_news.specs.InDesk.{by_desk, next_ends, of_unnoted, settle
 ghost use Rattle.ready_news.specs.New.{IsBehind, Keeps, is_new};
 
 use aml_slice::Control;
-use batch_table::Desk;
 use core_events::Event;
-use listing_facts::parts_list_all;
+use listing_facts::{Desk, parts_list_all};
 use ready_listing::{list_batch, list_going, push_one, push_two};
 use snap_base::{ActorId, Bid, Memory};
 use snap_hand::{Hand, Tables};

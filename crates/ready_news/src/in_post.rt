@@ -5,7 +5,7 @@ ghost use Rattle.aml_slice.specs.Controls.{Rest};
 ghost use Rattle.core_events.specs.Meant.{event_meant};
 ghost use Rattle.ready_listing.specs.Listed.{Adds};
 ghost use Rattle.protocol.specs.Meant.{tid_number};
-ghost use Rattle.post_box.specs.Listed.{control_listed, sub_listed};
+ghost use Rattle.listing_facts.specs.post_box.Listed.{control_listed, sub_listed};
 ghost use Rattle.protocol.specs.Effects.{after};
 ghost use Rattle.protocol.specs.Parts.{Machine};
 ghost use Rattle.protocol_ready.specs.Telling.{PostTells};
@@ -17,12 +17,11 @@ ghost use Rattle.ready_news.specs.New.{IsBehind, Keeps, is_new};
 
 use aml_slice::Control;
 use core_events::Event;
-use core_rows::runs_go_on;
-use post_box::Post;
+use listing_facts::Post;
 use protocol_laws::allowed_or_refused;
 use ready_listing::{list_messages, push_one, push_three, push_two};
 use snap_base::{ActorId, Bid, Memory, Tid};
-use snap_hand::{Hand, Tables};
+use snap_hand::{Hand, Tables, runs_go_on};
 use std::alloc::Global;
 
 fn push_arrivals(subs: &[(Bid, ActorId)], events: &mut Vec<Event>) -> Result<(), Memory>

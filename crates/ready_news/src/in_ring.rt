@@ -13,12 +13,10 @@ ghost use Rattle.ready_news.specs.New.{IsBehind, Keeps, is_new};
 
 use aml_slice::Control;
 use core_events::Event;
-use core_rows::runs_go_on;
 use protocol_laws::{frame, logs_stay};
 use ready_listing::{list_next, push_one};
 use snap_base::Memory;
-use snap_hand::{Hand, Tables};
-use token_ring::Ring;
+use snap_hand::{Hand, Ring, Tables, runs_go_on};
 
 /// Whether the event changes the ring.
 fn is_of_ring(e: Event) -> bool

@@ -3,8 +3,8 @@
 
 ghost use Rattle.std.specs.Prelude.{◌≡◌, ℕ, Option, Some, List, slice_get, Contains};
 ghost use Rattle.aml_slice.specs.Controls.{Rest};
-ghost use Rattle.batch_table.specs.Askings.{awaits_settling, is_next};
-ghost use Rattle.batch_table.specs.Listed.{is_number};
+ghost use Rattle.listing_facts.specs.batch_table.Askings.{awaits_settling, is_next};
+ghost use Rattle.listing_facts.specs.batch_table.Listed.{is_number};
 ghost use Rattle.book_part.specs.Halves.{Halves, Shows};
 ghost use Rattle.protocol.specs.Conditions.{epoch};
 ghost use Rattle.protocol.specs.Effects.{after};
@@ -24,12 +24,12 @@ ghost use Rattle.ready_news.specs.New.{IsBehind, is_new};
 
 use aml_slice::Control;
 use book_part::unbegun_acts_wait_for_nothing;
-use core_rows::runs_go_on;
 use listing_facts::{parts_list_all, run_parts_list_all};
 use protocol_laws::{
     allowed_or_refused, frame, logs_stay, numbers_are_drawn_once, numbers_are_in_range,
 };
 use protocol_theorems::sizes_hold;
+use snap_hand::runs_go_on;
 
 /// A list in which the events listed by the ring stand tells all that is new of what the ring has next.
 pub fn ring_is_told()

@@ -1,7 +1,7 @@
 -- What is asked again after an event, with all parts at hand, and what becomes of the kept events.
 use Rattle.std.specs.Prelude.{◌≡◌, ℕ, ◌<◌, ◌≤◌, false, List, Contains, ◌⊎◌}
 use Rattle.aml_slice.specs.Controls.{Rest}
-use Rattle.core_rows.specs.OnRuns.{HasRun}
+use Rattle.snap_hand.specs.core_rows.OnRuns.{HasRun}
 use Rattle.protocol.specs.Conditions.{IsAllowed}
 use Rattle.protocol.specs.Events.{Event}
 use Rattle.protocol.specs.Fixed.{Fixed}

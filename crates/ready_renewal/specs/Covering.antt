@@ -1,7 +1,7 @@
 -- Events among which all are that are allowed, and the first of these.
 use Rattle.std.specs.Prelude.{◌≡◌, ◌⊎◌, Some, List, slice_get, Contains}
 use Rattle.aml_slice.specs.Controls.{Rest}
-use Rattle.core_rows.specs.OnRuns.{HasRun}
+use Rattle.snap_hand.specs.core_rows.OnRuns.{HasRun}
 use Rattle.protocol.specs.Conditions.{IsAllowed}
 use Rattle.protocol.specs.Events.{Event}
 use Rattle.protocol.specs.Fixed.{Fixed}

@@ -15,13 +15,12 @@ use crate::refused::refused;
 use crate::revising::{put_in, take_out};
 use aml_slice::Control;
 use core_events::Event;
-use core_rows::runs_go_on;
 use protocol_laws::allowed_or_refused;
 use protocol_ready::{parts_tell_all, renewed_are_enabled, states_are_sound, untouched_stay};
 use ready_list::ReadyList;
 use ready_news::touched;
 use snap_base::Memory;
-use snap_hand::{Hand, Tables};
+use snap_hand::{Hand, Tables, runs_go_on};
 use std::alloc::Global;
 
 /// Makes of all allowed events before the event, which was just taken, all allowed events after it. All parts are at hand, as

@@ -6,3 +6,4 @@ pub mod Sizes
 pub mod Spelling
 pub mod Upgrading
 pub mod WholeGroups
+pub use Rattle.txn_records.proofs as txn_records

@@ -9,6 +9,7 @@ mod laws;
 mod limits;
 
 pub use appends::append_records;
+pub use gate_log::{AppendNo, Log};
 pub use growth::{groups_are_whole, history_grows};
 pub use items::{ItemsNo, records_of};
 pub use laws::{
@@ -16,3 +17,4 @@ pub use laws::{
     records_are_held, refused_keeps, upgrade_keeps,
 };
 pub use limits::{FARTHEST_APPEND, MOST_RECORDS};
+pub use txn_records::{records_are_short, states_fit};

@@ -1,18 +1,18 @@
 -- Journals that got groups, one call after the other.
 use Rattle.std.proofs.Common.{◌≡◌, ℕ, ◌≤◌, false, IfSome, Option, None, Some, List, [], ◌∷◌, ◌++◌, map, refl, sym, ap, subst, ◌∙◌, arith, append_assoc, append-nil}
-use Rattle.gate_log.specs.Appends.{append_ops, end_behind}
-use Rattle.gate_log.specs.State.{LogState, IsUntouched}
-use Rattle.log_set.specs.Shown.{told_bytes}
+use Rattle.record_log.specs.gate_log.Appends.{append_ops, end_behind}
+use Rattle.record_log.specs.gate_log.State.{LogState, IsUntouched}
+use Rattle.snap_hand.specs.log_set.Shown.{told_bytes}
 use Rattle.protocol.specs.Records.{LogRecord}
 use Rattle.record_log.specs.Growth.{end_behind_groups, GrewBy, MayAppendGroup}
 use Rattle.record_log.specs.GrowthLaws.{GroupGrows, FaultGrows}
 use Rattle.record_log.specs.Records.{spelled}
-use Rattle.log_set.specs.Told.{all_told}
+use Rattle.snap_hand.specs.log_set.Told.{all_told}
 use Rattle.snap_outside.specs.Causes.{Rose}
 use Rattle.snap_outside.specs.Disk.{AddsAll, AddsUpToFault}
 use Rattle.run_effects.specs.Driven.{IsDriven}
 use Rattle.run_effects.specs.Appending.{IsAppended, IsCutOff}
-use Rattle.txn_records.specs.declared.records.Record.{Record}
+use Rattle.record_log.specs.txn_records.declared.records.Record.{Record}
 
 -- the pieces that wait are the spelled records that wait
 pub pieces_spelled : (rs : List LogRecord) → map told_bytes rs ≡ spelled (all_told rs)

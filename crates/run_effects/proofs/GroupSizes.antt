@@ -2,13 +2,13 @@
 use Rattle.std.proofs.Common.{◌≡◌, ℕ, ◌+◌, ◌*◌, ◌^◌, ◌≤◌, List, [], ◌∷◌, ◌++◌, length, refl, arith}
 use Rattle.std.proofs.lemmas.List.{length-append}
 use Rattle.std.specs.List.{AllByRecursion}
-use Rattle.gate_log.specs.Appends.{end_behind}
-use Rattle.gate_log.specs.Bytes.{IsItem, item_bytes, items_bytes}
+use Rattle.record_log.specs.gate_log.Appends.{end_behind}
+use Rattle.record_log.specs.gate_log.Bytes.{IsItem, item_bytes, items_bytes}
 use Rattle.protocol.specs.Records.{LogRecord}
-use Rattle.txn_records.specs.declared.records.Record.{Record}
-use Rattle.txn_records.specs.RecordLaws.{RecordsAreShort}
-use Rattle.txn_records.specs.Records.{record_bytes, IsRecord}
-use Rattle.log_set.specs.Told.{told, all_told}
+use Rattle.record_log.specs.txn_records.declared.records.Record.{Record}
+use Rattle.record_log.specs.txn_records.RecordLaws.{RecordsAreShort}
+use Rattle.record_log.specs.txn_records.Records.{record_bytes, IsRecord}
+use Rattle.snap_hand.specs.log_set.Told.{told, all_told}
 use Rattle.record_log.specs.Growth.{all_records, end_behind_groups, MayAppendGroup, MayAppendGroups}
 use Rattle.record_log.specs.Records.{spelled}
 use Rattle.run_effects.specs.Sizes.{longest_told}

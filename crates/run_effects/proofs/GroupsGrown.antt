@@ -15,8 +15,8 @@ use Rattle.protocol.specs.Records.{LogRecord}
 use Rattle.protocol.specs.Runs.{opening, reached, state_after, EachAllowed, IsRun}
 use Rattle.protocol.specs.Words.{holds}
 use Rattle.record_log.specs.Growth.{all_records}
-use Rattle.log_set.specs.Told.{told, all_told}
-use Rattle.txn_records.specs.declared.records.Record.{Record}
+use Rattle.snap_hand.specs.log_set.Told.{told, all_told}
+use Rattle.record_log.specs.txn_records.declared.records.Record.{Record}
 use Rattle.run_effects.specs.Groups.{waiting, durable, group_by, groups_from, groups_of}
 
 -- ---- one more event

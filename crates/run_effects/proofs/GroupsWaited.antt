@@ -7,7 +7,7 @@ use Rattle.protocol.specs.Events.{Event, Sync}
 use Rattle.protocol.specs.Fixed.{Fixed}
 use Rattle.protocol.specs.Parts.{Machine}
 use Rattle.protocol.specs.Runs.{opening, reached, IsRun}
-use Rattle.txn_records.specs.declared.records.Record.{Record}
+use Rattle.record_log.specs.txn_records.declared.records.Record.{Record}
 use Rattle.run_effects.proofs.Elements.{all_join}
 use Rattle.run_effects.proofs.RunsLonger.{allowed_parts, state_longer}
 use Rattle.run_effects.specs.Groups.{waiting, group_by, groups_from, groups_of, group_behind}

@@ -16,3 +16,4 @@ mod GroupSizes
 mod GroupsWaited
 mod RecordCounts
 pub mod Driving
+pub use Rattle.record_log.proofs as record_log

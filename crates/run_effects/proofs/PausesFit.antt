@@ -2,13 +2,13 @@
 use Rattle.std.specs.Prelude.{ℕ, zero, suc, ◌+◌, ◌-◌, ◌<◌, ◌^◌, min, nat_lt, Bool, true, false, if◌then◌else◌, ℤ, Result, Ok, Err, List, [], ◌∷◌, ◌++◌, take, slice_set}
 use Rattle.snap_base.specs.declared.transactions.State.{State}
 use Rattle.snap_base.proofs.Lists.{all_push, all_take}
-use Rattle.aml_tree.specs.Tree.{Expr, Code, End, Let, Call, Set, SetField, If, IfElse, While, Fail, Return}
-use Rattle.aml_check.specs.declared.limits.TheConstants.{MOST_STATEMENTS}
-use Rattle.aml_check.specs.Meaning.{too_many_statements, with_field, is_nonzero, value_of, values_of}
-use Rattle.aml_resume.specs.declared.places.Spot.{Spot}
-use Rattle.aml_resume.specs.Places.{Standing, behind_some, inner_of, after_inner, place_behind}
-use Rattle.aml_resume.specs.Pausing.{Pause, Through, Returned, Calling, Failed, unless_failed, one_more, counted_value, counting, spot, around, loop_pause, block_pause, pause_from, given_at_end, method_pause}
-use Rattle.txn_records.specs.Records.{IsState}
+use Rattle.aml_slice.specs.aml_tree.Tree.{Expr, Code, End, Let, Call, Set, SetField, If, IfElse, While, Fail, Return}
+use Rattle.aml_slice.specs.aml_check.declared.limits.TheConstants.{MOST_STATEMENTS}
+use Rattle.aml_slice.specs.aml_check.Meaning.{too_many_statements, with_field, is_nonzero, value_of, values_of}
+use Rattle.aml_slice.specs.aml_resume.declared.places.Spot.{Spot}
+use Rattle.aml_slice.specs.aml_resume.Places.{Standing, behind_some, inner_of, after_inner, place_behind}
+use Rattle.aml_slice.specs.aml_resume.Pausing.{Pause, Through, Returned, Calling, Failed, unless_failed, one_more, counted_value, counting, spot, around, loop_pause, block_pause, pause_from, given_at_end, method_pause}
+use Rattle.record_log.specs.txn_records.Records.{IsState}
 use Rattle.run_effects.proofs.Elements.{all_set}
 use Rattle.run_effects.proofs.ValuesFit.{Has, has_bind, Each, Fits, AllFit, Small, nought_fits, value_fits, values_fit, with_field_is_state}
 

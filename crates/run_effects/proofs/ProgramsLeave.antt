@@ -5,16 +5,16 @@ use Rattle.std.proofs.Common.{arith}
 use Rattle.aml_slice.specs.Controls.{Rest}
 use Rattle.protocol.specs.Meant.{next_meant}
 use Rattle.snap_base.specs.declared.transactions.Tx.{Tx}
-use Rattle.aml_tree.specs.Tree.{CheckedMethod}
-use Rattle.aml_check.specs.Closed.{IsClosedProgram}
-use Rattle.aml_check.specs.Transactions.{IsTransaction}
+use Rattle.aml_slice.specs.aml_tree.Tree.{CheckedMethod}
+use Rattle.aml_slice.specs.aml_check.Closed.{IsClosedProgram}
+use Rattle.aml_slice.specs.aml_check.Transactions.{IsTransaction}
 use Rattle.snap_base.specs.declared.next.Next as slices
 use Rattle.snap_base.specs.declared.next.Next.TheVariants as slice
 use Rattle.aml_slice.specs.Slicing.{slice_end, started}
 use Rattle.machine_laws.specs.MethodCode.{tid_of}
 use Rattle.machine_laws.specs.Programs.{IsTextOf, with_code}
 use Rattle.protocol.specs.Fixed.{Text, no_tx, tx_at}
-use Rattle.txn_records.specs.Records.{IsState}
+use Rattle.record_log.specs.txn_records.Records.{IsState}
 use Rattle.run_effects.proofs.SlicesFit.{FitNext, FitRest, slice_fits}
 use Rattle.run_effects.proofs.StatesKept.{LeavesStates, MetNext}
 use Rattle.run_effects.proofs.ValuesFit.{AllFit}

@@ -13,9 +13,9 @@ use Rattle.protocol.specs.Left.{total}
 use Rattle.protocol_theorems.specs.Left.{RunsEnd}
 use Rattle.protocol_records.specs.RecordLaws as records
 use Rattle.protocol_records.specs.RecordLaws.{RecordsAreFew}
-use Rattle.txn_records.specs.declared.records.Record.{Record}
-use Rattle.txn_records.specs.RecordLaws.{RecordsAreShort}
-use Rattle.log_set.specs.Told.{told}
+use Rattle.record_log.specs.txn_records.declared.records.Record.{Record}
+use Rattle.record_log.specs.txn_records.RecordLaws.{RecordsAreShort}
+use Rattle.snap_hand.specs.log_set.Told.{told}
 use Rattle.record_log.specs.Growth.{end_behind_groups}
 use Rattle.run_effects.specs.Groups.{waiting, durable, group_by, groups_from, groups_of, group_behind}
 use Rattle.run_effects.specs.Laws.{GroupsAreDurable}

@@ -4,7 +4,7 @@ use Rattle.std.specs.List.{AllByRecursion}
 use Rattle.std.proofs.Common.{arith, sym, subst}
 use Rattle.std.proofs.lemmas.List.Concat.{flat_map-cons}
 use Rattle.snap_base.proofs.Lists.{all_get, all_front, all_back, all_take, all_drop}
-use Rattle.core_facts.specs.RowsMay.{IsActRecord, RowsMay}
+use Rattle.snap_hand.specs.core_facts.RowsMay.{IsActRecord, RowsMay}
 use Rattle.protocol.specs.Conditions.{IsAllowed}
 use Rattle.protocol.specs.Effects.{act_commit, added, after, ascending, cell_at, log_at, no_log, synced}
 use Rattle.protocol.specs.Events.{Event, Form, Complete, Sync, Commit, Prepare, Decide}
@@ -16,9 +16,9 @@ use Rattle.protocol.specs.Runs.{EachAllowed, IsRun, opening, reached, state_afte
 use Rattle.protocol.specs.Words.{act_of, batch_of, is_value, value_of, values_of}
 use Rattle.protocol_laws.proofs.first.PairsFound.{found_tid}
 use Rattle.record_log.specs.Growth.{all_records}
-use Rattle.log_set.specs.Told.{actor_of, actors_of, all_told, bid_of, tids_of, told}
-use Rattle.txn_records.specs.declared.records.Record.{Record}
-use Rattle.txn_records.specs.Records.{IsRecord, actor_numbers, tid_numbers}
+use Rattle.snap_hand.specs.log_set.Told.{actor_of, actors_of, all_told, bid_of, tids_of, told}
+use Rattle.record_log.specs.txn_records.declared.records.Record.{Record}
+use Rattle.record_log.specs.txn_records.Records.{IsRecord, actor_numbers, tid_numbers}
 use Rattle.run_effects.specs.Groups.{durable, groups_of}
 use Rattle.run_effects.specs.Recorded.{AreRecords, GroupsHoldRecords}
 use Rattle.run_effects.proofs.Elements.{If, all_found, all_join, all_set}

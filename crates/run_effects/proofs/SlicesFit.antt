@@ -4,18 +4,18 @@ use Rattle.std.specs.List.{AllByRecursion}
 use Rattle.std.proofs.Common.{arith}
 use Rattle.std.proofs.lemmas.Bool.{ltb-true}
 use Rattle.snap_base.specs.declared.transactions.State.{State}
-use Rattle.aml_tree.specs.Tree.{CheckedMethod}
-use Rattle.aml_check.specs.Closed.{IsClosedProgram}
-use Rattle.aml_check.specs.Names.{method_at}
-use Rattle.aml_check.specs.Meaning.{actor_of, admitted, no_actor}
-use Rattle.aml_resume.specs.Places.{Standing}
-use Rattle.aml_resume.specs.Pausing.{Pause, Through, Returned, Calling, Failed}
+use Rattle.aml_slice.specs.aml_tree.Tree.{CheckedMethod}
+use Rattle.aml_slice.specs.aml_check.Closed.{IsClosedProgram}
+use Rattle.aml_slice.specs.aml_check.Names.{method_at}
+use Rattle.aml_slice.specs.aml_check.Meaning.{actor_of, admitted, no_actor}
+use Rattle.aml_slice.specs.aml_resume.Places.{Standing}
+use Rattle.aml_slice.specs.aml_resume.Pausing.{Pause, Through, Returned, Calling, Failed}
 use Rattle.snap_base.specs.declared.next.Next.{Next}
 use Rattle.snap_base.specs.declared.next.Next.TheVariants.{Go, Ended}
 use Rattle.snap_base.proofs.Lists.{all_push}
 use Rattle.aml_slice.specs.Controls.{Frame, Rest, progress_in, most_waiting, moves_left}
 use Rattle.aml_slice.specs.Slicing.{Move, To, Out, SliceEnd, returned, unless_refused, called_on, moved_by, move, after_move, slice_end_in, slice_end}
-use Rattle.txn_records.specs.Records.{IsState}
+use Rattle.record_log.specs.txn_records.Records.{IsState}
 use Rattle.run_effects.proofs.ValuesFit.{Has, Fits, AllFit, nought_fits, method_small}
 use Rattle.run_effects.proofs.StatesKept.{ResultFits}
 use Rattle.run_effects.proofs.PausesFit.{FitPause, method_fit}

@@ -5,7 +5,7 @@ use Rattle.snap_base.specs.declared.transactions.State.{State}
 use Rattle.snap_base.specs.declared.transactions.TxResult.{TxResult}
 use Rattle.snap_base.specs.declared.transactions.TxResult.TheVariants.{Value, Fail}
 use Rattle.snap_base.proofs.Lists.{all_filter, all_get}
-use Rattle.txn_records.specs.Records.{IsState}
+use Rattle.record_log.specs.txn_records.Records.{IsState}
 use Rattle.protocol.specs.Effects.{after, cell_at, no_cell}
 use Rattle.protocol.specs.Events.{Event, Form, Admit, Arrive, Ask, Take, Run, Send, End, Close, Complete, Rollback, DropControl, Finish, Trim}
 use Rattle.protocol.specs.Fixed.{Fixed, Next, Go, Ended, base, tx_at}

@@ -7,9 +7,9 @@ use Rattle.snap_base.specs.declared.ids.Bid.{Bid}
 use Rattle.snap_base.specs.declared.ids.Tid.{Tid}
 use Rattle.snap_base.specs.declared.transactions.State.{State}
 use Rattle.protocol.specs.Records.{LogRecord, BatchInfo, BatchComplete, BatchDone, ActPrepare, ActDone}
-use Rattle.txn_records.specs.Records.{field_bytes, state_bytes, actors_bytes, tids_bytes, info_bytes, complete_bytes, prepare_bytes, values_bytes, done_bytes, act_done_bytes, record_bytes, IsState, IsInfo, IsDone, IsActDone, IsRecord}
-use Rattle.txn_records.proofs.RecordSizes.{field_size, fields_size, state_size, actors_size, tids_size}
-use Rattle.log_set.specs.Told.{told, bid_of, tid_of, actor_of, tids_of, actors_of}
+use Rattle.record_log.specs.txn_records.Records.{field_bytes, state_bytes, actors_bytes, tids_bytes, info_bytes, complete_bytes, prepare_bytes, values_bytes, done_bytes, act_done_bytes, record_bytes, IsState, IsInfo, IsDone, IsActDone, IsRecord}
+use Rattle.record_log.proofs.txn_records.RecordSizes.{field_size, fields_size, state_size, actors_size, tids_size}
+use Rattle.snap_hand.specs.log_set.Told.{told, bid_of, tid_of, actor_of, tids_of, actors_of}
 use Rattle.run_effects.specs.Sizes.{longest_told}
 
 -- ---- one record, of which the longest is an info

@@ -7,13 +7,13 @@ use Rattle.std.proofs.Math.Nat.{mod-le}
 use Rattle.std.proofs.lemmas.Bool.Decides.{nat_tests}
 use Rattle.std.proofs.lemmas.List.{length-set}
 use Rattle.snap_base.specs.declared.transactions.State.{State}
-use Rattle.aml_tree.specs.declared.trees.Operator.{Operator}
-use Rattle.aml_tree.specs.declared.trees.Operator.TheVariants as operator
-use Rattle.aml_tree.specs.Tree.{Expr, Number, Variable, Field, Own, Group, Negative, Binary, Code, End, Let, Call, Set, SetField, If, IfElse, While, Fail, Return, CheckedMethod}
-use Rattle.aml_check.specs.Closed.{IsClosedExpression, IsClosedBlock, IsClosedMethod}
-use Rattle.aml_check.specs.Meaning.{◌>>=◌, overflow, zero_divisor, value_of, values_of, in_range, truth, is_nonzero, divided, joined, decided, unless_decided, zero_state, with_field}
-use Rattle.aml_check.specs.Names.{method_at}
-use Rattle.txn_records.specs.Records.{IsState}
+use Rattle.aml_slice.specs.aml_tree.declared.trees.Operator.{Operator}
+use Rattle.aml_slice.specs.aml_tree.declared.trees.Operator.TheVariants as operator
+use Rattle.aml_slice.specs.aml_tree.Tree.{Expr, Number, Variable, Field, Own, Group, Negative, Binary, Code, End, Let, Call, Set, SetField, If, IfElse, While, Fail, Return, CheckedMethod}
+use Rattle.aml_slice.specs.aml_check.Closed.{IsClosedExpression, IsClosedBlock, IsClosedMethod}
+use Rattle.aml_slice.specs.aml_check.Meaning.{◌>>=◌, overflow, zero_divisor, value_of, values_of, in_range, truth, is_nonzero, divided, joined, decided, unless_decided, zero_state, with_field}
+use Rattle.aml_slice.specs.aml_check.Names.{method_at}
+use Rattle.record_log.specs.txn_records.Records.{IsState}
 use Rattle.run_effects.proofs.Elements.{all_set}
 
 -- where there is a value, it has P

@@ -1,9 +1,9 @@
 -- One append to an open journal.
 use Rattle.std.specs.Prelude.{◌≡◌, ℕ, ◌≤◌, true, false, List}
-use Rattle.gate_log.specs.Appends.{append_ops, end_behind}
-use Rattle.gate_log.specs.State.{LogState, IsUntouched}
-use Rattle.gate_log.specs.declared.logs.AppendNo.{AppendNo}
-use Rattle.gate_log.specs.declared.logs.AppendNo.TheVariants as append
+use Rattle.record_log.specs.gate_log.Appends.{append_ops, end_behind}
+use Rattle.record_log.specs.gate_log.State.{LogState, IsUntouched}
+use Rattle.record_log.specs.gate_log.declared.logs.AppendNo.{AppendNo}
+use Rattle.record_log.specs.gate_log.declared.logs.AppendNo.TheVariants as append
 use Rattle.snap_outside.specs.Causes.{Rose}
 use Rattle.snap_outside.specs.Disk.{AddsAll, AddsUpToFault}
 

@@ -1,10 +1,10 @@
 -- What a log's journal got: whole groups, and the front of one that met a fault.
 use Rattle.std.specs.Prelude.{◌≡◌, ℕ, ◌≤◌, Option, None, IfSome, is_some, List, ◌++◌}
-use Rattle.gate_log.specs.State.{LogState}
+use Rattle.record_log.specs.gate_log.State.{LogState}
 use Rattle.record_log.specs.Growth.{end_behind_groups, GrewBy}
 use Rattle.snap_outside.specs.Causes.{Rose}
 use Rattle.snap_outside.specs.Disk.{History}
-use Rattle.txn_records.specs.declared.records.Record.{Record}
+use Rattle.record_log.specs.txn_records.declared.records.Record.{Record}
 
 -- Whatever groups the log's device had got since it was opened, it got these behind them, and a front of the append of one
 -- that met a fault, where one did.

@@ -5,8 +5,8 @@ use Rattle.protocol.specs.Events.{Event, Sync}
 use Rattle.protocol.specs.Fixed.{Fixed}
 use Rattle.protocol.specs.Parts.{Log, Machine}
 use Rattle.protocol.specs.Runs.{opening, reached}
-use Rattle.log_set.specs.Told.{all_told}
-use Rattle.txn_records.specs.declared.records.Record.{Record}
+use Rattle.snap_hand.specs.log_set.Told.{all_told}
+use Rattle.record_log.specs.txn_records.declared.records.Record.{Record}
 
 -- what waits, as it is written
 abbrev pub waiting : Log → List Record

@@ -1,13 +1,13 @@
 -- What the device of a log has had at a moment of a run.
 use Rattle.std.specs.Prelude.{◌≡◌, ℕ, false, List, [], ◌++◌}
-use Rattle.gate_log.specs.Opened.{beginning_ops}
+use Rattle.record_log.specs.gate_log.Opened.{beginning_ops}
 use Rattle.protocol.specs.Events.{Event}
 use Rattle.protocol.specs.Fixed.{Fixed}
 use Rattle.protocol.specs.Moments.{Moment}
 use Rattle.record_log.specs.Growth.{end_behind_groups, groups_ops, IsNextBegun}
 use Rattle.run_effects.specs.Groups.{groups_of}
 use Rattle.snap_outside.specs.declared.devices.DevOp.{DevOp}
-use Rattle.txn_records.specs.declared.records.Record.{Record}
+use Rattle.record_log.specs.txn_records.declared.records.Record.{Record}
 
 -- Of the operations of log l's device these are made at the moment: those of opening, and of an upgrade where the log was of
 -- format 1; one append for each group that the log had got by then; and some or all of the next append, only where that has begun.

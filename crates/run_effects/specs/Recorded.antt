@@ -1,13 +1,13 @@
 -- What a run of a program's text writes has a spelling: what its groups are made of, and what waits, are records.
 use Rattle.std.specs.Prelude.{ℕ, List}
 use Rattle.std.specs.List.{AllByRecursion}
-use Rattle.aml_tree.specs.Tree.{CheckedMethod}
+use Rattle.aml_slice.specs.aml_tree.Tree.{CheckedMethod}
 use Rattle.machine_laws.specs.Programs.{IsTextOf, with_code}
 use Rattle.protocol.specs.Events.{Event}
 use Rattle.protocol.specs.Fixed.{Fixed, Text}
 use Rattle.protocol.specs.Runs.{IsRun}
-use Rattle.txn_records.specs.declared.records.Record.{Record}
-use Rattle.txn_records.specs.Records.{IsRecord, IsState}
+use Rattle.record_log.specs.txn_records.declared.records.Record.{Record}
+use Rattle.record_log.specs.txn_records.Records.{IsRecord, IsState}
 use Rattle.run_effects.specs.Groups.{group_behind, groups_of}
 
 abbrev pub AreRecords : List Record → Type 0

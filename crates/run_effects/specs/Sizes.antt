@@ -11,9 +11,9 @@ use Rattle.protocol.specs.Records.{LogRecord}
 use Rattle.protocol.specs.Runs.{IsRun}
 use Rattle.protocol.specs.Left.{total}
 use Rattle.protocol_records.specs.RecordLaws.{most_records}
-use Rattle.txn_records.specs.declared.records.Record.{Record}
-use Rattle.txn_records.specs.Records.{record_bytes, IsRecord}
-use Rattle.log_set.specs.Told.{told}
+use Rattle.record_log.specs.txn_records.declared.records.Record.{Record}
+use Rattle.record_log.specs.txn_records.Records.{record_bytes, IsRecord}
+use Rattle.snap_hand.specs.log_set.Told.{told}
 use Rattle.record_log.specs.declared.limits.TheConstants.{FARTHEST_APPEND}
 use Rattle.record_log.specs.Growth.{end_behind_groups, MayAppendGroup, MayAppendGroups}
 use Rattle.run_effects.specs.Groups.{groups_of, group_behind}

@@ -1,9 +1,9 @@
 //! The append of one group to an open log.
 ghost use Rattle.std.specs.Prelude.{◌≡◌, false, MatchResult};
-ghost use Rattle.gate_log.specs.Device.{MayAppend};
+ghost use Rattle.record_log.specs.gate_log.Device.{MayAppend};
 ghost use Rattle.run_effects.specs.Appending.{IsAppended, IsNotAppended};
 
-use gate_log::{AppendNo, Log};
+use record_log::{AppendNo, Log};
 use snap_base::Sequence;
 use snap_outside::LogDev;
 use std::alloc::Global;

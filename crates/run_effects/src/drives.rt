@@ -1,27 +1,26 @@
 //! Laws on appends to journals, and on all runs of a text, for the hosts that append and print.
 ghost use Rattle.std.specs.List.{AllByRecursion};
 ghost use Rattle.std.specs.Prelude.{◌≡◌, false, None, Some, List, [], ◌∷◌, map};
-ghost use Rattle.gate_log.specs.State.{LogState};
-ghost use Rattle.log_set.specs.Shown.{told_bytes};
+ghost use Rattle.record_log.specs.gate_log.State.{LogState};
+ghost use Rattle.snap_hand.specs.log_set.Shown.{told_bytes};
 ghost use Rattle.protocol.specs.Records.{LogRecord};
 ghost use Rattle.record_log.specs.Growth.{MayAppendGroup};
 ghost use Rattle.record_log.specs.Records.{spelled};
-ghost use Rattle.log_set.specs.Told.{all_told};
+ghost use Rattle.snap_hand.specs.log_set.Told.{all_told};
 ghost use Rattle.run_effects.specs.Appending.{IsAppended, IsCutOff};
 ghost use Rattle.run_effects.specs.Driven.{IsDriven};
 ghost use Rattle.run_effects.specs.RunsOf.{RunsOf};
 ghost use Rattle.snap_hand.specs.Tables.{AreTables, fixed_of};
-ghost use Rattle.txn_records.specs.Records.{IsState};
-ghost use Rattle.txn_records.specs.declared.records.Record.{Record};
+ghost use Rattle.record_log.specs.txn_records.Records.{IsState};
+ghost use Rattle.record_log.specs.txn_records.declared.records.Record.{Record};
 
 use crate::{groups_are_records, groups_fit, groups_grow, replies_grow, waiting_fits};
 use aml_slice::Control;
 use machine_laws::{every_run_ends, texts_have_the_facts};
 use protocol_laws::logs_stay;
-use record_log::history_grows;
+use record_log::{history_grows, states_fit};
 use snap_base::State;
 use snap_hand::Tables;
-use txn_records::states_fit;
 
 /// A law, cited by a call: an open log got no group yet; an append of a group gives it that group; an append that met a fault
 /// gives it a prefix of one; and the pieces that wait are the spellings of the records that wait.

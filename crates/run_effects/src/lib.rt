@@ -17,6 +17,7 @@ mod writes;
 pub use appends::append_pieces;
 pub use drives::{appends_drive, runs_of};
 pub use groups::{batches_are_counted, groups_grow};
+pub use record_log::history_grows;
 pub use recorded::groups_are_records;
 pub use replies::{answers_grow, replies_grow};
 pub use sizes::{groups_fit, logs_are_few, told_are_short, waiting_fits};

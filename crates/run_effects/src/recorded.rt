@@ -1,13 +1,12 @@
 //! A law on what a run writes to its logs: these are records.
-ghost use Rattle.aml_check.specs.Checked.{methods_of};
+ghost use Rattle.aml_slice.specs.aml_check.Checked.{methods_of};
 ghost use Rattle.run_effects.specs.Recorded.{GroupsAreRecords};
 
 use crate::groups::groups_grow;
-use aml_check::Checked;
-use aml_slice::Control;
-use core_facts::rows_may_be_taken;
+use aml_slice::{Checked, Control};
 use machine_laws::texts_have_the_facts;
 use protocol_laws::frame;
+use snap_hand::rows_may_be_taken;
 
 /// A law, cited by a call: in every run of every text of the program that opens with states, the groups that a log gets and what
 /// waits there are made of records, which have a spelling in bytes.

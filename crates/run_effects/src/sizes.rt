@@ -5,7 +5,7 @@ ghost use Rattle.run_effects.specs.Sizes.{AllGroupsFit, LogsAreFew, ToldAreShort
 use crate::groups_grow;
 use protocol_records::records_are_few;
 use protocol_theorems::every_run_ends;
-use txn_records::records_are_short;
+use record_log::records_are_short;
 
 /// A law of every run, cited by a call: all logs together hold at most 18 records for each transaction of the text.
 pub fn logs_are_few<C>()

@@ -10,7 +10,10 @@ mod opens;
 mod starts;
 
 pub use comparisons::{GREATEST_TO_BEGIN, ROOM_TO_BEGIN};
+pub use gate_log::{FARTHEST_END, Log};
 pub use laws::{begins_again, others_get_no_call};
 pub use limits::LARGEST_START;
+pub use log_opening::{LogsNo, close};
 pub use opens::open_run;
+pub use snap_recover::Opening;
 pub use starts::{Start, start_from};

@@ -10,7 +10,7 @@ use Rattle.protocol.specs.Report.{Answer, answer, answers, is_committed}
 use Rattle.protocol.specs.Verdicts.{verdict}
 use Rattle.protocol.specs.Words.{count, holds}
 use Rattle.protocol.specs.Left.{total}
-use Rattle.protocol_theorems.proofs.quiet.LimitsHold.{count_cons}
+use Rattle.machine_laws.proofs.protocol_theorems.quiet.LimitsHold.{count_cons}
 use Rattle.run_effects.specs.Laws.{settles}
 use Rattle.run_effects.specs.Replies.{commits_of, aborts_of}
 use Rattle.run_printing.specs.Counted.{settled_by}

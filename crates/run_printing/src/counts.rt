@@ -6,7 +6,7 @@ ghost use Rattle.protocol.specs.Fixed.{most_txs};
 ghost use Rattle.protocol.specs.Numbers.{one_if};
 ghost use Rattle.protocol.specs.Report.{is_committed, report};
 ghost use Rattle.protocol.specs.Words.{holds};
-ghost use Rattle.protocol_theorems.specs.Left.{most_events};
+ghost use Rattle.machine_laws.specs.protocol_theorems.Left.{most_events};
 ghost use Rattle.run_printing.specs.Counted.{IsAddedBy};
 ghost use Rattle.snap_core.specs.Cores.{IsAt, state_at};
 

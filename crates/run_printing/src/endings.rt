@@ -6,7 +6,7 @@ ghost use Rattle.protocol.specs.Events as machine;
 ghost use Rattle.run_effects.specs.Lines.{ending_text};
 ghost use Rattle.run_printing.specs.Printed.{AppendsFront};
 ghost use Rattle.snap_core.specs.Cores.{IsAt, state_at};
-ghost use Rattle.snap_hand.specs.Tables.{fixed_of};
+ghost use Rattle.snap_core.specs.snap_hand.Tables.{fixed_of};
 ghost use Rattle.snap_outside.specs.Causes.{Rose, EndsAtFault};
 ghost use Rattle.snap_report.specs.Lines.{actor_text, actors_text};
 
@@ -15,7 +15,7 @@ use crate::counts::counts_of;
 use crate::writes::write_text;
 use aml_slice::Control;
 use core_events::Event;
-use protocol_theorems::sizes_hold;
+use machine_laws::sizes_hold;
 use snap_base::{ActorId, Memory, State};
 use snap_core::Core;
 use snap_outside::Sink;

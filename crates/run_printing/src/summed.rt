@@ -5,7 +5,7 @@ ghost use Rattle.core_events.specs.Meant.{event_meant};
 ghost use Rattle.run_printing.specs.Printed.{AppendsFront};
 ghost use Rattle.run_printing.specs.Summed.{summary_by, summing_text};
 ghost use Rattle.snap_core.specs.Cores.{IsAt};
-ghost use Rattle.snap_hand.specs.Tables.{fixed_of};
+ghost use Rattle.snap_core.specs.snap_hand.Tables.{fixed_of};
 ghost use Rattle.snap_outside.specs.Causes.{Rose, EndsAtFault};
 
 use crate::WriteNo;

@@ -5,7 +5,7 @@ ghost use Rattle.run_printing.specs.Summed.{sum_of, total_of};
 ghost use Rattle.snap_core.specs.Cores.{IsAt, state_at};
 
 use aml_slice::Control;
-use protocol_theorems::sizes_hold;
+use machine_laws::sizes_hold;
 use snap_base::ActorId;
 use snap_core::Core;
 

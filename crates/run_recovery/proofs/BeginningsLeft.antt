@@ -4,21 +4,21 @@ use Rattle.std.proofs.Common.{inl, inr, arith, sym, ap, subst, ◌∙◌}
 use Rattle.std.proofs.lemmas.List.{append-nil}
 use Rattle.std.proofs.lemmas.List.Concat.{flat_map-cons}
 use Rattle.snap_base.specs.declared.transactions.State.{State}
-use Rattle.gate_log.specs.Opened.{Opened, beginning_ops}
-use Rattle.log_opening.specs.Devices.{device_at}
+use Rattle.record_log.specs.gate_log.Opened.{Opened, beginning_ops}
+use Rattle.run_opening.specs.log_opening.Devices.{device_at}
 use Rattle.record_log.specs.Growth.{GrewBy, HoldsWhole, IsGrowth, Leaves, LeavesGroups, MayAppendGroups, all_records, groups_ops}
 use Rattle.record_log.specs.GrowthLaws.{GrowthKeeps}
 use Rattle.record_log.specs.Records.{HoldsRecords, spelled}
-use Rattle.gate_log.specs.Appends.{end_behind}
+use Rattle.record_log.specs.gate_log.Appends.{end_behind}
 use Rattle.run_opening.specs.Begins.{AreOfRuns, Begins}
 use Rattle.run_opening.specs.Opens.{first_groups, records_at, with_first}
 use Rattle.run_opening.specs.Starts.{IsStart}
 use Rattle.run_effects.specs.Groups.{group_behind, groups_of}
-use Rattle.snap_outside.specs.declared.devices.DevOp.{DevOp}
-use Rattle.snap_outside.specs.Disk.{History, IsImage, content, disk, disk_after, settled}
+use Rattle.record_log.specs.snap_outside.declared.devices.DevOp.{DevOp}
+use Rattle.record_log.specs.snap_outside.Disk.{History, IsImage, content, disk, disk_after, settled}
 use Rattle.snap_recover.specs.declared.openings.Opening.{Opening}
 use Rattle.snap_work.specs.Kept.{KeepsLimits}
-use Rattle.txn_records.specs.declared.records.Record.{Record}
+use Rattle.record_log.specs.txn_records.declared.records.Record.{Record}
 use Rattle.run_recovery.specs.Beginnings.{BeginsAgain, CrashBefore, HoldEach, IsFront, KeepsOrBegins}
 use Rattle.run_recovery.specs.OneRun.{TheRun, machine_in}
 use Rattle.run_recovery.specs.Runs.{IsRunDevice, tried_on}

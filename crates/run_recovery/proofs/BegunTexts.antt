@@ -3,14 +3,14 @@ use Rattle.std.proofs.Common.{◌≡◌, inl, inr, List, length, refl, ap, arith
 use Rattle.snap_base.specs.declared.transactions.State.{State}
 use Rattle.machine_laws.specs.Programs.{IsTextOf}
 use Rattle.machine_text.proofs.Accepted.{accepted}
-use Rattle.recovery_laws.specs.Grown.{BeginsWith}
+use Rattle.machine_recovery.specs.recovery_laws.Grown.{BeginsWith}
 use Rattle.run_opening.proofs.Starting.{began_long}
 use Rattle.run_opening.specs.Opens.{HasRoomToBegin}
 use Rattle.run_opening.specs.Starts.{IsStart}
 use Rattle.snap_recover.specs.declared.openings.Opening.{Opening}
 use Rattle.snap_work.specs.Kept.{KeepsLimits}
 use Rattle.snap_work.specs.Works.{Work}
-use Rattle.txn_records.specs.declared.records.Record.{Record}
+use Rattle.record_log.specs.txn_records.declared.records.Record.{Record}
 use Rattle.run_recovery.specs.Runs.{text_of}
 pub use Rattle.run_opening.proofs.RunOpening.{BegunRecovered, recovers_now as earlier_recovers}
 

@@ -3,19 +3,19 @@ use Rattle.std.specs.Prelude.{◌≡◌, refl, ℕ, zero, suc, ◌<◌, ◌≤�
 use Rattle.std.specs.List.{AllByRecursion, AllZip}
 use Rattle.std.proofs.Common.{inl, inr, arith, sym, ap, subst, ◌∙◌}
 use Rattle.std.proofs.lemmas.List.{append_cancel_left}
-use Rattle.log_opening.specs.Devices.{Device, device_at}
-use Rattle.log_opening.specs.Kept.{DeviceHolds}
+use Rattle.run_opening.specs.log_opening.Devices.{Device, device_at}
+use Rattle.run_opening.specs.log_opening.Kept.{DeviceHolds}
 use Rattle.record_log.specs.RecordLogLaws.{OneListOfRecords}
 use Rattle.record_log.specs.Records.{HoldsRecords, KeepsRecords}
 use Rattle.run_opening.specs.Begins.{AreEmpty, AreOfRuns, Begins, fresh_opening}
 use Rattle.run_opening.specs.Opens.{AreHeldEmpty, AreSafe, KeepsOrAdds, records_at, with_first}
 use Rattle.run_opening.specs.Starts.{first_record}
 use Rattle.snap_base.specs.declared.transactions.State.{State}
-use Rattle.snap_outside.specs.declared.devices.DevOp.{DevOp}
-use Rattle.snap_outside.specs.Disk.{History, EachMoment, IsImage, content, disk, disk_after, settled, with_ops}
-use Rattle.snap_outside.specs.Moments.{moment_between}
+use Rattle.record_log.specs.snap_outside.declared.devices.DevOp.{DevOp}
+use Rattle.record_log.specs.snap_outside.Disk.{History, EachMoment, IsImage, content, disk, disk_after, settled, with_ops}
+use Rattle.record_log.specs.snap_outside.Moments.{moment_between}
 use Rattle.snap_recover.specs.declared.openings.Opening.{Opening}
-use Rattle.txn_records.specs.declared.records.Record.{Record}
+use Rattle.record_log.specs.txn_records.declared.records.Record.{Record}
 use Rattle.run_recovery.specs.Beginnings.{HoldEach, KeepsOrBegins}
 use Rattle.run_recovery.specs.Unbegun.{AreKept, AreUnbegun, IsUnbegun, left_last}
 use Rattle.run_recovery.proofs.LogsLeft.{first_long}

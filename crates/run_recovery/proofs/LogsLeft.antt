@@ -7,8 +7,8 @@ use Rattle.std.proofs.lemmas.List.Concat.{flat_map-cons}
 use Rattle.std.proofs.lemmas.Grind.{flat_map-append}
 use Rattle.std.proofs.Math.Seq.{take-length}
 use Rattle.aml_slice.specs.Controls.{Rest}
-use Rattle.gate_log.specs.Opened.{Opened}
-use Rattle.log_opening.specs.Devices.{device_at}
+use Rattle.record_log.specs.gate_log.Opened.{Opened}
+use Rattle.run_opening.specs.log_opening.Devices.{device_at}
 use Rattle.protocol.specs.Effects.{log_at}
 use Rattle.protocol.specs.Events as machine
 use Rattle.protocol.specs.Fixed.{Fixed}
@@ -20,14 +20,14 @@ use Rattle.record_log.specs.Growth.{HoldsWhole, IsTried, MayAppendGroups, GrewBy
 use Rattle.record_log.specs.GrowthLaws.{MomentKeeps}
 use Rattle.record_log.specs.Records.{HoldsRecords}
 use Rattle.record_log.proofs.Growing.{may_more}
-use Rattle.log_set.specs.Told.{all_told, told}
-use Rattle.recovery_laws.specs.Grown.{grown, grown_from}
+use Rattle.run_effects.specs.log_set.Told.{all_told, told}
+use Rattle.machine_recovery.specs.recovery_laws.Grown.{grown, grown_from}
 use Rattle.run_opening.specs.Opens.{as_groups, first_groups, records_at, with_first}
 use Rattle.run_effects.specs.Groups.{durable, group_behind, groups_of, waiting}
 use Rattle.run_effects.specs.Laws.{GroupsAreDurable}
-use Rattle.snap_outside.specs.declared.devices.DevOp.{DevOp}
-use Rattle.snap_outside.specs.Disk.{History, IsImage, content, disk, disk_after, settled}
-use Rattle.txn_records.specs.declared.records.Record.{Record}
+use Rattle.record_log.specs.snap_outside.declared.devices.DevOp.{DevOp}
+use Rattle.record_log.specs.snap_outside.Disk.{History, IsImage, content, disk, disk_after, settled}
+use Rattle.record_log.specs.txn_records.declared.records.Record.{Record}
 use Rattle.run_effects.specs.Made.{IsMade}
 use Rattle.run_recovery.specs.Crashes.{CrashOn, begun_on, earlier}
 use Rattle.run_recovery.specs.OneRun.{TheRun, MomentOf, machine_in, reached_at}

@@ -15,7 +15,7 @@ use Rattle.record_log.specs.Growth.{begun_groups}
 use Rattle.run_effects.specs.Groups.{group_behind, group_by, groups_from, groups_of, waiting}
 use Rattle.run_effects.proofs.RunsLonger.{state_longer}
 use Rattle.run_effects.proofs.GroupsGrown.{set_elsewhere}
-use Rattle.txn_records.specs.declared.records.Record.{Record}
+use Rattle.record_log.specs.txn_records.declared.records.Record.{Record}
 use Rattle.run_recovery.specs.Runs.{tried_on}
 
 -- ---- runs and lists, one behind the other

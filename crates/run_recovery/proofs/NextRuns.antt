@@ -1,12 +1,12 @@
 -- What a crash leaves of the logs is what the next run begins on.
 use Rattle.std.specs.Prelude.{◌≡◌, ℕ, ◌≤◌, List, [], ◌∷◌, length, filter}
 use Rattle.std.proofs.Common.{inl, inr, sym, ap, ◌∙◌}
-use Rattle.aml_tree.specs.Tree.{CheckedMethod}
+use Rattle.aml_slice.specs.aml_tree.Tree.{CheckedMethod}
 use Rattle.protocol.specs.Moments.{left_in}
 use Rattle.protocol.specs.Records as written
 use Rattle.protocol.specs.Records.{LogRecord}
-use Rattle.recovery_laws.specs.Grown.{grown}
-use Rattle.recovery_laws.proofs.WrittenLists.{grown_length, grown_genesis}
+use Rattle.machine_recovery.specs.recovery_laws.Grown.{grown}
+use Rattle.machine_recovery.proofs.recovery_laws.WrittenLists.{grown_length, grown_genesis}
 use Rattle.run_opening.specs.Begins.{AreEmpty, BeganWith, Begins}
 use Rattle.run_opening.specs.Opens.{with_first}
 use Rattle.run_opening.specs.Starts.{IsStart}
@@ -16,8 +16,8 @@ use Rattle.snap_recover.specs.declared.openings.Opening.{Opening}
 use Rattle.snap_recover.specs.Logs.{is_genesis}
 use Rattle.snap_recover.specs.Opening.{IsRecovered}
 use Rattle.snap_work.specs.Kept.{KeepsLimits}
-use Rattle.txn_records.specs.declared.records.Record.{Record}
-use Rattle.txn_records.specs.declared.records.Record.TheVariants.{Genesis}
+use Rattle.record_log.specs.txn_records.declared.records.Record.{Record}
+use Rattle.record_log.specs.txn_records.declared.records.Record.TheVariants.{Genesis}
 use Rattle.run_recovery.specs.Crashes.{Recovers, earlier}
 use Rattle.run_recovery.specs.Next.{GoesOnFrom, opening_left, records_left}
 use Rattle.run_recovery.specs.OneRun.{TheRun, MomentOf, reached_at}

@@ -2,7 +2,7 @@
 use Rattle.std.specs.Prelude.{◌≡◌, ℕ, zero, suc, ◌+◌, Bool, Some, List, [], ◌∷◌, ◌++◌, length, slice_get, Contains}
 use Rattle.std.proofs.Common.{arith}
 use Rattle.aml_slice.specs.Controls.{Rest}
-use Rattle.log_opening.specs.Devices.{Device}
+use Rattle.run_opening.specs.log_opening.Devices.{Device}
 use Rattle.protocol.specs.Conditions.{IsAllowed}
 use Rattle.protocol.specs.Effects.{after}
 use Rattle.protocol.specs.Events.{Event}

@@ -3,8 +3,8 @@ use Rattle.std.specs.Prelude.{◌≡◌, refl, ℕ, ◌<◌, nat_lt, Bool, true,
 use Rattle.std.proofs.Common.{sym, subst, ◌∙◌}
 use Rattle.std.proofs.lemmas.Bool.{ltb-true, lt-ltb, true≢false}
 use Rattle.aml_slice.specs.Controls.{Rest}
-use Rattle.aml_tree.specs.Tree.{CheckedMethod}
-use Rattle.log_opening.specs.Devices.{Device}
+use Rattle.aml_slice.specs.aml_tree.Tree.{CheckedMethod}
+use Rattle.run_opening.specs.log_opening.Devices.{Device}
 use Rattle.machine_laws.specs.Programs.{AfterEveryRunOf, AtEveryMomentOf, IsTextOf, OfEveryRunOf, finish_of}
 use Rattle.machine_recovery.specs.OnLogs.{AtEveryMomentOnLogsOf, RecoversAsMeant}
 use Rattle.protocol.specs.Effects as effects
@@ -15,11 +15,11 @@ use Rattle.protocol.specs.History.{History, history}
 use Rattle.protocol.specs.Moments.{IsLeft, left_in}
 use Rattle.protocol.specs.Parts.{Machine}
 use Rattle.protocol.specs.Runs.{IsRun, opening, reached}
-use Rattle.protocol_records.specs.Crash.{CrashHolds}
+use Rattle.machine_laws.specs.protocol_records.Crash.{CrashHolds}
 use Rattle.record_log.specs.GrowthLaws.{MomentKeeps}
 use Rattle.record_log.specs.Records.{HoldsRecords}
-use Rattle.recovery_laws.specs.Joined.{RecoversToMembers}
-use Rattle.recovery_laws.proofs.MomentsJoined.{front_allowed}
+use Rattle.machine_recovery.specs.recovery_laws.Joined.{RecoversToMembers}
+use Rattle.machine_recovery.proofs.recovery_laws.MomentsJoined.{front_allowed}
 use Rattle.run_opening.specs.Opens.{records_at}
 use Rattle.run_effects.specs.Laws.{GroupsAreDurable}
 use Rattle.snap_base.specs.declared.transactions.State.{State}

@@ -2,19 +2,19 @@
 use Rattle.std.specs.Prelude.{◌≡◌, refl, ℕ, ◌+◌, ◌≤◌, List, [], ◌∷◌, ◌++◌, length}
 use Rattle.std.proofs.Common.{inl, inr, arith, sym, ap, subst, ◌∙◌}
 use Rattle.std.proofs.lemmas.List.{append-nil}
-use Rattle.log_opening.specs.Kept.{IsSaid, logs_said}
+use Rattle.run_opening.specs.log_opening.Kept.{IsSaid, logs_said}
 use Rattle.protocol.specs.Records as written
 use Rattle.protocol.specs.Records.{LogRecord}
-use Rattle.log_set.specs.Told.{all_told}
-use Rattle.recovery_laws.specs.Grown.{grown, grown_from}
-use Rattle.recovery_laws.proofs.WrittenLists.{grown_length}
+use Rattle.run_effects.specs.log_set.Told.{all_told}
+use Rattle.machine_recovery.specs.recovery_laws.Grown.{grown, grown_from}
+use Rattle.machine_recovery.proofs.recovery_laws.WrittenLists.{grown_length}
 use Rattle.run_opening.specs.Begins.{AreOfRuns}
 use Rattle.run_opening.specs.Opens.{with_first}
 use Rattle.run_opening.specs.Starts.{IsStart}
 use Rattle.snap_base.specs.declared.transactions.State.{State}
 use Rattle.snap_recover.specs.declared.openings.Opening.{Opening}
-use Rattle.txn_records.specs.declared.records.Record.{Record}
-use Rattle.txn_records.specs.declared.records.Record.TheVariants.{Genesis, BatchInfo, BatchComplete, BatchCommit, ActPrepare, ActCommit, BatchDone, ActDone}
+use Rattle.record_log.specs.txn_records.declared.records.Record.{Record}
+use Rattle.record_log.specs.txn_records.declared.records.Record.TheVariants.{Genesis, BatchInfo, BatchComplete, BatchCommit, ActPrepare, ActCommit, BatchDone, ActDone}
 
 -- ---- a run's records say nothing of it
 

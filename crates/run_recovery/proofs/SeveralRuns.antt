@@ -3,28 +3,28 @@ use Rattle.std.specs.Prelude.{◌≡◌, refl, ℕ, suc, ◌<◌, Bool, Option, 
 use Rattle.std.specs.List.{AllByRecursion}
 use Rattle.std.proofs.Common.{inl, inr, append_assoc, arith, sym, ap, subst, ◌∙◌}
 use Rattle.std.proofs.lemmas.List.{append-nil}
-use Rattle.aml_tree.specs.Tree.{CheckedMethod}
-use Rattle.log_opening.specs.Devices.{Device, device_at}
-use Rattle.log_opening.specs.Kept.{DeviceHolds}
+use Rattle.aml_slice.specs.aml_tree.Tree.{CheckedMethod}
+use Rattle.run_opening.specs.log_opening.Devices.{Device, device_at}
+use Rattle.run_opening.specs.log_opening.Kept.{DeviceHolds}
 use Rattle.protocol.specs.Events as machine
 use Rattle.protocol.specs.Moments.{left_in}
 use Rattle.protocol.specs.History.{history}
 use Rattle.protocol.specs.Runs.{reached}
-use Rattle.protocol_records.specs.Crash.{members}
+use Rattle.machine_laws.specs.protocol_records.Crash.{members}
 use Rattle.record_log.specs.RecordLogLaws.{OneListOfRecords}
 use Rattle.record_log.specs.Records.{HoldsRecords}
-use Rattle.recovery_laws.specs.Grown.{all_in}
+use Rattle.machine_recovery.specs.recovery_laws.Grown.{all_in}
 use Rattle.run_opening.specs.Begins.{AreOfRuns, Begins, fresh_opening}
 use Rattle.run_opening.specs.Opens.{records_at}
 use Rattle.run_opening.specs.Starts.{IsStart, first_record}
 use Rattle.snap_base.specs.declared.transactions.State.{State}
 use Rattle.snap_base.proofs.Lists.{each_at}
-use Rattle.snap_outside.specs.Disk.{History, content}
+use Rattle.record_log.specs.snap_outside.Disk.{History, content}
 use Rattle.snap_recover.specs.declared.openings.Kept.{Kept}
 use Rattle.snap_recover.specs.declared.openings.Opening.{Opening}
 use Rattle.snap_work.specs.Kept.{KeepsLimits}
 use Rattle.snap_work.specs.Works.{Work}
-use Rattle.txn_records.specs.declared.records.Record.{Record}
+use Rattle.record_log.specs.txn_records.declared.records.Record.{Record}
 use Rattle.run_recovery.specs.Beginnings.{BeginsAgain, CrashBefore, HoldEach, KeepsOrBegins}
 use Rattle.run_recovery.specs.Crashes.{CrashOn, Recovers}
 use Rattle.run_recovery.specs.Next.{GoesOnFrom, opening_left, records_left}

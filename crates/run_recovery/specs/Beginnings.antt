@@ -1,8 +1,8 @@
 -- What a crash leaves while a run begins: its logs are opened, those of format 1 are upgraded, and what is written before it is
 -- appended.
 use Rattle.std.specs.Prelude.{◌≡◌, ℕ, ◌<◌, ◌⊎◌, Some, List, [], ◌∷◌, ◌++◌}
-use Rattle.gate_log.specs.Opened.{beginning_ops}
-use Rattle.log_opening.specs.Devices.{device_at}
+use Rattle.record_log.specs.gate_log.Opened.{beginning_ops}
+use Rattle.run_opening.specs.log_opening.Devices.{device_at}
 use Rattle.record_log.specs.Growth.{groups_ops}
 use Rattle.record_log.specs.Records.{HoldsRecords}
 use Rattle.run_opening.specs.Begins.{AreEmpty, AreOfRuns, Begins}
@@ -10,9 +10,9 @@ use Rattle.run_opening.specs.Opens.{first_groups, records_at, with_first}
 use Rattle.run_opening.specs.Starts.{first_record}
 use Rattle.run_recovery.specs.OneRun.{TheRun}
 use Rattle.snap_base.specs.declared.transactions.State.{State}
-use Rattle.snap_outside.specs.declared.devices.DevOp.{DevOp}
-use Rattle.snap_outside.specs.Disk.{History, content, disk, disk_after, settled, IsImage}
-use Rattle.txn_records.specs.declared.records.Record.{Record}
+use Rattle.record_log.specs.snap_outside.declared.devices.DevOp.{DevOp}
+use Rattle.record_log.specs.snap_outside.Disk.{History, content, disk, disk_after, settled, IsImage}
+use Rattle.record_log.specs.txn_records.declared.records.Record.{Record}
 
 -- these are made, from the first on
 abbrev pub IsFront : List DevOp → List DevOp → Type 0

@@ -1,22 +1,22 @@
 -- What a crash leaves at a moment of a run, and what that recovers to.
 use Rattle.std.specs.Prelude.{◌≡◌, ℕ, ◌<◌, Some, List, ◌++◌}
-use Rattle.aml_tree.specs.Tree.{CheckedMethod}
-use Rattle.log_opening.specs.Devices.{device_at}
+use Rattle.aml_slice.specs.aml_tree.Tree.{CheckedMethod}
+use Rattle.run_opening.specs.log_opening.Devices.{device_at}
 use Rattle.machine_recovery.specs.OnLogs.{RecoversAsMeant}
 use Rattle.protocol.specs.Moments.{IsLeft, left_in}
-use Rattle.protocol_records.specs.Crash.{CrashStands}
+use Rattle.machine_laws.specs.protocol_records.Crash.{CrashStands}
 use Rattle.record_log.specs.Growth.{begun_groups}
 use Rattle.record_log.specs.Records.{HoldsRecords}
-use Rattle.recovery_laws.specs.Grown.{grown}
-use Rattle.recovery_laws.specs.Joined.{RecoversToMembers}
+use Rattle.machine_recovery.specs.recovery_laws.Grown.{grown}
+use Rattle.machine_recovery.specs.recovery_laws.Joined.{RecoversToMembers}
 use Rattle.run_opening.specs.Opens.{first_groups, records_at, with_first}
 use Rattle.run_effects.specs.Groups.{groups_of, group_behind}
 use Rattle.run_effects.specs.Made.{IsMade}
 use Rattle.run_recovery.specs.OneRun.{TheRun, MomentOf, alone_in, history_at, machine_in, reached_at}
 use Rattle.run_recovery.specs.Runs.{tried_on}
-use Rattle.snap_outside.specs.declared.devices.DevOp.{DevOp}
-use Rattle.snap_outside.specs.Disk.{History, content, disk, disk_after, settled, IsImage}
-use Rattle.txn_records.specs.declared.records.Record.{Record}
+use Rattle.record_log.specs.snap_outside.declared.devices.DevOp.{DevOp}
+use Rattle.record_log.specs.snap_outside.Disk.{History, content, disk, disk_after, settled, IsImage}
+use Rattle.record_log.specs.txn_records.declared.records.Record.{Record}
 
 -- ---- a moment, on the devices
 

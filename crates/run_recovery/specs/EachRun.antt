@@ -1,8 +1,8 @@
 -- The shapes of laws over every run of a work.
 use Rattle.std.specs.Prelude.{◌≡◌, ℕ, Bool, List}
 use Rattle.aml_slice.specs.Controls.{Rest}
-use Rattle.aml_tree.specs.Tree.{CheckedMethod}
-use Rattle.log_opening.specs.Devices.{Device}
+use Rattle.aml_slice.specs.aml_tree.Tree.{CheckedMethod}
+use Rattle.run_opening.specs.log_opening.Devices.{Device}
 use Rattle.machine_laws.specs.Programs.{finish_of}
 use Rattle.protocol.specs.Events as machine
 use Rattle.protocol.specs.Facts.{Alone}

@@ -9,3 +9,5 @@ pub mod Next
 pub mod Recoverable
 pub mod Unbegun
 pub mod Several
+pub use Rattle.machine_recovery.specs.recovery_laws as recovery_laws
+pub use Rattle.machine_recovery.specs as machine_recovery

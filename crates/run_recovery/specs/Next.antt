@@ -1,11 +1,11 @@
 -- What the next run begins with, behind a crash at a moment of a run. Behind a run that was not cut off it is the same: the
 -- moment is the one at its end, where no append has begun, and each log is left with what is synced.
 use Rattle.std.specs.Prelude.{◌≡◌, ℕ, ◌<◌, List, length}
-use Rattle.aml_tree.specs.Tree.{CheckedMethod}
-use Rattle.log_opening.specs.Kept.{IsSaid}
+use Rattle.aml_slice.specs.aml_tree.Tree.{CheckedMethod}
+use Rattle.run_opening.specs.log_opening.Kept.{IsSaid}
 use Rattle.protocol.specs.Moments.{left_in}
 use Rattle.record_log.specs.Records.{HoldsRecords}
-use Rattle.recovery_laws.specs.Grown.{grown, opening_after}
+use Rattle.machine_recovery.specs.recovery_laws.Grown.{grown, opening_after}
 use Rattle.run_opening.specs.Begins.{AreEmpty, AreOfRuns, BeganWith, Begins, IsUnspent}
 use Rattle.run_opening.specs.Opens.{records_at}
 use Rattle.run_recovery.specs.Crashes.{Recovers, earlier}
@@ -13,7 +13,7 @@ use Rattle.run_recovery.specs.OneRun.{TheRun, MomentOf, machine_in, reached_at}
 use Rattle.snap_base.specs.declared.transactions.State.{State}
 use Rattle.snap_recover.specs.declared.openings.Opening.{Opening}
 use Rattle.snap_recover.specs.Opening.{IsRecovered}
-use Rattle.txn_records.specs.declared.records.Record.{Record}
+use Rattle.record_log.specs.txn_records.declared.records.Record.{Record}
 
 -- the records with which the logs are left
 abbrev pub records_left : {p : List CheckedMethod} {r : TheRun} {m : MomentOf r} {images : ℕ → List ℕ} → Recovers p r m images → List (List Record)

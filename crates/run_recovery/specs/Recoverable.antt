@@ -1,13 +1,13 @@
 -- What the call that prints what the logs recover to goes by.
 use Rattle.std.specs.Prelude.{◌≡◌, ℕ, ◌<◌, List, length, take, Some}
 use Rattle.std.specs.List.{AllZip}
-use Rattle.log_opening.specs.Devices.{Device, device_at}
-use Rattle.log_opening.specs.Kept.{IsSaid}
+use Rattle.run_opening.specs.log_opening.Devices.{Device, device_at}
+use Rattle.run_opening.specs.log_opening.Kept.{IsSaid}
 use Rattle.run_opening.specs.Opens.{TellsRecords}
-use Rattle.snap_outside.specs.Disk.{History, content}
+use Rattle.record_log.specs.snap_outside.Disk.{History, content}
 use Rattle.snap_recover.specs.declared.openings.Opening.{Opening}
 use Rattle.snap_recover.specs.Opening.{IsRecovered}
-use Rattle.txn_records.specs.declared.records.Record.{Record}
+use Rattle.record_log.specs.txn_records.declared.records.Record.{Record}
 
 -- Log 0 says how many logs there are; their devices, the first ones of these, tell that they hold these records; and the records
 -- recover to the opening.

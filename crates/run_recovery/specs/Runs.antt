@@ -1,12 +1,12 @@
 -- A run of a work: what it begins with, how far it goes, and what it leaves on its logs.
 use Rattle.std.specs.Prelude.{◌≡◌, ℕ, ◌<◌, ◌≤◌, ◌==◌, if◌then◌else◌, Bool, true, false, Option, None, Some, List, [], ◌∷◌, ◌++◌, length, drop, map}
-use Rattle.core_events.specs.declared.events.Event.{Event}
-use Rattle.core_events.specs.Meant.{event_meant}
-use Rattle.gate_log.specs.declared.limits.TheConstants.{FARTHEST_END}
-use Rattle.gate_log.specs.declared.logs.LogItem.{LogItem}
-use Rattle.gate_log.specs.Opened.{Opened}
-use Rattle.log_opening.specs.Devices.{Device, device_at, HoldNoOld}
-use Rattle.log_opening.specs.Kept.{DeviceHolds}
+use Rattle.run_effects.specs.core_events.declared.events.Event.{Event}
+use Rattle.run_effects.specs.core_events.Meant.{event_meant}
+use Rattle.record_log.specs.gate_log.declared.limits.TheConstants.{FARTHEST_END}
+use Rattle.record_log.specs.gate_log.declared.logs.LogItem.{LogItem}
+use Rattle.record_log.specs.gate_log.Opened.{Opened}
+use Rattle.run_opening.specs.log_opening.Devices.{Device, device_at, HoldNoOld}
+use Rattle.run_opening.specs.log_opening.Kept.{DeviceHolds}
 pub use Rattle.machine_text.specs.Texts.{text_of, machine_of}
 use Rattle.protocol.specs.Conditions.{IsAllowed}
 use Rattle.protocol.specs.Events as machine
@@ -17,10 +17,10 @@ use Rattle.run_opening.specs.Opens.{HasRoomToBegin, first_groups, records_at}
 use Rattle.run_opening.specs.Starts.{IsStart}
 use Rattle.run_effects.specs.Groups.{groups_of, group_behind}
 use Rattle.run_recovery.specs.Schedules.{Schedule, seeded, free, IsTakenBy}
-use Rattle.snap_outside.specs.Disk.{History}
+use Rattle.record_log.specs.snap_outside.Disk.{History}
 use Rattle.snap_recover.specs.declared.openings.Opening.{Opening}
 use Rattle.snap_work.specs.Works.{Work}
-use Rattle.txn_records.specs.declared.records.Record.{Record}
+use Rattle.record_log.specs.txn_records.declared.records.Record.{Record}
 
 -- the events, as the machine's definitions speak of them
 abbrev pub meant : List Event → List machine.Event

@@ -2,12 +2,12 @@
 -- the bytes that were left. Any work may follow that is of as many logs and of the same states.
 use Rattle.std.specs.Prelude.{◌≡◌, ℕ, Bool, Some, List, [], ◌∷◌, ◌++◌, length, map, ⊤}
 use Rattle.std.specs.List.{flat_map}
-use Rattle.log_opening.specs.Devices.{Device}
+use Rattle.run_opening.specs.log_opening.Devices.{Device}
 use Rattle.machine_laws.specs.Meant.{meant_run}
 use Rattle.protocol.specs.Chains.{by_place}
 use Rattle.protocol.specs.Events as machine
 use Rattle.protocol.specs.History.{Done}
-use Rattle.recovery_laws.specs.Grown.{PlacedResult, answer_at, answers_of}
+use Rattle.machine_recovery.specs.recovery_laws.Grown.{PlacedResult, answer_at, answers_of}
 use Rattle.run_opening.specs.Begins.{AreOfRuns, Begins}
 use Rattle.run_recovery.specs.Beginnings.{BeginsAgain, CrashBefore, HoldEach, KeepsOrBegins}
 use Rattle.run_recovery.specs.Crashes.{CrashOn, Recovers}
@@ -21,7 +21,7 @@ use Rattle.snap_recover.specs.declared.openings.Kept.{Kept}
 use Rattle.snap_recover.specs.declared.openings.Opening.{Opening}
 use Rattle.snap_work.specs.Kept.{KeepsLimits}
 use Rattle.snap_work.specs.Works.{Work}
-use Rattle.txn_records.specs.declared.records.Record.{Record}
+use Rattle.record_log.specs.txn_records.declared.records.Record.{Record}
 
 -- ---- a run that is cut off
 

@@ -1,13 +1,13 @@
 -- What the laws of the machine say of a run of a work, in one.
 use Rattle.std.specs.Prelude.{ℕ, List}
 use Rattle.machine_laws.specs.Meant.{CommittedAsMeant, VerdictsAsMeant}
-use Rattle.protocol_records.specs.AsTold.{ToldStands}
-use Rattle.protocol_theorems.specs.Left.{RunsEnd}
-use Rattle.protocol_theorems.specs.Order.{OrderHolds}
-use Rattle.protocol_theorems.specs.Quiet.{AnsweredWhenQuiet}
-use Rattle.protocol_theorems.specs.Sets.{NumbersStand}
-use Rattle.protocol_verdicts.specs.Evidence.{VerdictsStand}
-use Rattle.protocol_verdicts.specs.EvidenceSerial.{VerdictsTell}
+use Rattle.machine_laws.specs.protocol_records.AsTold.{ToldStands}
+use Rattle.machine_laws.specs.protocol_theorems.Left.{RunsEnd}
+use Rattle.machine_laws.specs.protocol_theorems.Order.{OrderHolds}
+use Rattle.machine_laws.specs.protocol_theorems.Quiet.{AnsweredWhenQuiet}
+use Rattle.machine_laws.specs.protocol_theorems.Sets.{NumbersStand}
+use Rattle.machine_laws.specs.protocol_verdicts.Evidence.{VerdictsStand}
+use Rattle.machine_laws.specs.protocol_verdicts.EvidenceSerial.{VerdictsTell}
 use Rattle.run_recovery.specs.Beginnings.{BeginsAgain, CrashBefore}
 use Rattle.run_recovery.specs.Crashes.{CrashOn, Recovers}
 use Rattle.run_recovery.specs.Next.{GoesOnFrom}

@@ -1,15 +1,15 @@
 -- Calls in which no run began: the logs were refused, a device failed, or there was no memory; or the call printed what the logs recover
 -- to. Such calls may stand between runs.
 use Rattle.std.specs.Prelude.{◌≡◌, ℕ, ◌<◌, Some, List, [], ◌∷◌, ◌++◌, length, ⊤}
-use Rattle.log_opening.specs.Devices.{Device, device_at}
+use Rattle.run_opening.specs.log_opening.Devices.{Device, device_at}
 use Rattle.run_opening.specs.Begins.{AreOfRuns, Begins}
 use Rattle.run_opening.specs.Opens.{AreSafe}
 use Rattle.run_recovery.specs.Beginnings.{HoldEach, KeepsOrBegins}
 use Rattle.snap_base.specs.declared.transactions.State.{State}
-use Rattle.snap_outside.specs.declared.devices.DevOp.{DevOp}
-use Rattle.snap_outside.specs.Disk.{History, content, disk, disk_after, settled, with_ops, IsImage}
+use Rattle.record_log.specs.snap_outside.declared.devices.DevOp.{DevOp}
+use Rattle.record_log.specs.snap_outside.Disk.{History, content, disk, disk_after, settled, with_ops, IsImage}
 use Rattle.snap_recover.specs.declared.openings.Opening.{Opening}
-use Rattle.txn_records.specs.declared.records.Record.{Record}
+use Rattle.record_log.specs.txn_records.declared.records.Record.{Record}
 
 -- ---- the calls
 

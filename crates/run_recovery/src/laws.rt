@@ -1,17 +1,17 @@
 //! The laws, of every checked program.
 ghost use Rattle.std.specs.Prelude.{◌≡◌, ◌≤◌, ℕ, List, Bool, length, map, Contains};
 ghost use Rattle.std.specs.List.{AllByRecursion};
-ghost use Rattle.aml_check.specs.Checked.{methods_of};
-ghost use Rattle.log_opening.specs.Devices.{Device};
+ghost use Rattle.aml_slice.specs.aml_check.Checked.{methods_of};
+ghost use Rattle.run_opening.specs.log_opening.Devices.{Device};
 ghost use Rattle.machine_laws.specs.Meant.{CommittedAsMeant, VerdictsAsMeant};
 ghost use Rattle.protocol.specs.Events as machine;
-ghost use Rattle.protocol_records.specs.AsTold.{ToldStands};
-ghost use Rattle.protocol_theorems.specs.Left.{RunsEnd};
-ghost use Rattle.protocol_theorems.specs.Order.{OrderHolds};
-ghost use Rattle.protocol_theorems.specs.Quiet.{AnsweredWhenQuiet};
-ghost use Rattle.protocol_theorems.specs.Sets.{NumbersStand};
-ghost use Rattle.protocol_verdicts.specs.Evidence.{VerdictsStand};
-ghost use Rattle.protocol_verdicts.specs.EvidenceSerial.{VerdictsTell};
+ghost use Rattle.machine_laws.specs.protocol_records.AsTold.{ToldStands};
+ghost use Rattle.machine_laws.specs.protocol_theorems.Left.{RunsEnd};
+ghost use Rattle.machine_laws.specs.protocol_theorems.Order.{OrderHolds};
+ghost use Rattle.machine_laws.specs.protocol_theorems.Quiet.{AnsweredWhenQuiet};
+ghost use Rattle.machine_laws.specs.protocol_theorems.Sets.{NumbersStand};
+ghost use Rattle.machine_laws.specs.protocol_verdicts.Evidence.{VerdictsStand};
+ghost use Rattle.machine_laws.specs.protocol_verdicts.EvidenceSerial.{VerdictsTell};
 ghost use Rattle.run_opening.specs.Begins.{AreEmpty, AreOfRuns};
 ghost use Rattle.run_recovery.specs.Beginnings.{BeginsAgain, CrashBefore, HoldEach};
 ghost use Rattle.run_recovery.specs.Crashes.{CrashOn, Recovers};
@@ -25,13 +25,13 @@ ghost use Rattle.run_recovery.specs.Several.{CutOff, EachIsBehind, FindsRunsLogs
 ghost use Rattle.run_recovery.specs.Stands.{RunStands};
 ghost use Rattle.run_recovery.specs.Unbegun.{AreKept, AreUnbegun, left_last};
 ghost use Rattle.snap_base.specs.declared.transactions.State.{State};
-ghost use Rattle.aml_tree.specs.Tree.{CheckedMethod};
+ghost use Rattle.aml_slice.specs.aml_tree.Tree.{CheckedMethod};
 ghost use Rattle.snap_recover.specs.declared.openings.Opening.{Opening};
 ghost use Rattle.snap_work.specs.Kept.{KeepsLimits};
 ghost use Rattle.snap_work.specs.Works.{Work};
-ghost use Rattle.txn_records.specs.declared.records.Record.{Record};
+ghost use Rattle.record_log.specs.txn_records.declared.records.Record.{Record};
 
-use aml_check::Checked;
+use aml_slice::Checked;
 use machine_laws::{
     committed_transactions_are_as_meant, committed_transactions_are_in_order, every_run_ends,
     numbers_are_the_ends_of_sets, recovered_transactions_are_in_order,

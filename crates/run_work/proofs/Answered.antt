@@ -4,11 +4,11 @@ use Rattle.std.proofs.KnownBytes.{Keeps-refl}
 use Rattle.std.specs.Io.KnownBytes.{Keeps}
 use Rattle.std.proofs.lemmas.Bool.{eq-eqb}
 use Rattle.std.specs.List.{list_all}
-use Rattle.aml_slice.specs.Controls.{Rest}
-use Rattle.core_events.specs.declared.events.Event.{Event}
-use Rattle.log_opening.specs.declared.refusals.LogsNo.{LogsNo}
-use Rattle.log_opening.specs.declared.refusals.LogsNo.TheVariants as ending
-use Rattle.log_opening.specs.Devices.{Device, device_at}
+use Rattle.snap_core.specs.aml_slice.Controls.{Rest}
+use Rattle.snap_core.specs.core_events.declared.events.Event.{Event}
+use Rattle.run_opening.specs.log_opening.declared.refusals.LogsNo.{LogsNo}
+use Rattle.run_opening.specs.log_opening.declared.refusals.LogsNo.TheVariants as ending
+use Rattle.run_opening.specs.log_opening.Devices.{Device, device_at}
 use Rattle.protocol.specs.Events as machine
 use Rattle.protocol.specs.Fixed.{Fixed}
 use Rattle.protocol.specs.Runs.{reached}
@@ -28,12 +28,12 @@ use Rattle.run_work.specs.Writings.{Writing, writing_of, WritesNothing, Writes, 
 use Rattle.snap_base.specs.declared.transactions.State.{State}
 use Rattle.snap_outside.specs.Causes.{Rose}
 use Rattle.snap_outside.specs.declared.sinks.Sink.{Ghosts}
-use Rattle.snap_recover.specs.declared.openings.Opening.{Opening}
+use Rattle.run_opening.specs.snap_recover.declared.openings.Opening.{Opening}
 use Rattle.snap_report.specs.declared.statuses.Status.{Status}
 use Rattle.snap_report.specs.declared.statuses.Status.TheVariants as status
 use Rattle.snap_work.specs.Works.{Work}
-use Rattle.trace_text.specs.Traces.{trace_of}
-use Rattle.txn_records.specs.declared.records.Record.{Record}
+use Rattle.run_printing.specs.trace_text.Traces.{trace_of}
+use Rattle.run_opening.specs.txn_records.declared.records.Record.{Record}
 
 -- ---- with the trace
 

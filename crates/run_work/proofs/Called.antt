@@ -3,9 +3,9 @@ use Rattle.std.proofs.Common.{◌≡◌, ℕ, List, [], Result, length, sym, sub
 use Rattle.std.proofs.KnownBytes.{Keeps-refl}
 use Rattle.std.specs.Global.{Vec}
 use Rattle.std.specs.Io.KnownBytes.{Keeps}
-use Rattle.core_events.specs.declared.events.Event.{Event}
-use Rattle.log_opening.specs.Devices.{Device, devices_of}
-use Rattle.log_opening.specs.declared.refusals.LogsNo.{LogsNo}
+use Rattle.snap_core.specs.core_events.declared.events.Event.{Event}
+use Rattle.run_opening.specs.log_opening.Devices.{Device, devices_of}
+use Rattle.run_opening.specs.log_opening.declared.refusals.LogsNo.{LogsNo}
 use Rattle.run_opening.specs.Opens.{MayOpen}
 use Rattle.run_recovery.specs.Schedules.{Schedule}
 use Rattle.run_work.proofs.Answered.{EachStands, MarksAreReplies, call_answer, call_not_of_logs}
@@ -20,10 +20,10 @@ use Rattle.run_work.specs.declared.hosts.Hosted.{Hosted}
 use Rattle.snap_outside.specs.Causes.{EndsAtFault}
 use Rattle.snap_outside.specs.declared.devices.LogDev.{Ghosts as DeviceTells}
 use Rattle.snap_outside.specs.declared.sinks.Sink.{Ghosts as SinkTells}
-use Rattle.snap_recover.specs.declared.openings.Opening.{Opening}
+use Rattle.run_opening.specs.snap_recover.declared.openings.Opening.{Opening}
 use Rattle.snap_report.specs.declared.statuses.Status.{Status}
 use Rattle.snap_work.specs.Works.{Work}
-use Rattle.txn_records.specs.declared.records.Record.{Record}
+use Rattle.run_opening.specs.txn_records.declared.records.Record.{Record}
 
 -- the output as the host was handed it, as it left it, and at the end
 module _

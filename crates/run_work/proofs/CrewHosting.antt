@@ -1,27 +1,27 @@
 -- What several workers promise of what they took, in the words of a run.
 use Rattle.std.proofs.Common.{◌≡◌, ℕ, ◌<◌, Bool, true, false, if◌then◌else◌, inl, inr, List, length, refl, sym, ap, subst, ◌∙◌, arith, Option, Some, None, nat_lt}
 use Rattle.std.proofs.lemmas.Bool.{lt-ltb, ltb-true, true≢false}
-use Rattle.aml_slice.specs.Controls.{Rest}
-use Rattle.crew_ends.specs.Ends as crew
+use Rattle.snap_core.specs.aml_slice.Controls.{Rest}
+use Rattle.crew_host.specs.crew_ends.Ends as crew
 use Rattle.crew_host.specs.Drives.{IsCrewStop, AreAllOpen}
-use Rattle.crew_parts.specs.Crews.{OutputIs}
-use Rattle.gate_log.specs.State.{LogState}
+use Rattle.crew_host.specs.crew_parts.Crews.{OutputIs}
+use Rattle.run_opening.specs.gate_log.State.{LogState}
 use Rattle.protocol.specs.Events as machine
 use Rattle.protocol.specs.Fixed.{Fixed}
 use Rattle.protocol.specs.Runs.{IsRun}
-use Rattle.run_effects.specs.Driven.{IsDriven}
-use Rattle.run_effects.specs.declared.stops.Stop.{Stop}
-use Rattle.run_effects.specs.declared.stops.Stop.TheVariants as stop
-use Rattle.run_effects.specs.Groups.{groups_of, group_behind}
+use Rattle.solo_host.specs.run_effects.Driven.{IsDriven}
+use Rattle.solo_host.specs.run_effects.declared.stops.Stop.{Stop}
+use Rattle.solo_host.specs.run_effects.declared.stops.Stop.TheVariants as stop
+use Rattle.solo_host.specs.run_effects.Groups.{groups_of, group_behind}
 use Rattle.run_recovery.specs.Runs.{machine_of, none_failed, tried_on, IsLeastOf}
 use Rattle.run_recovery.specs.Schedules.{free}
 use Rattle.run_work.specs.Hosts.{HasDriven, IsStopOf, PrintsStopped, PrintsReplies, PrintsUnlessFailed, StopsSo, IsHostEnd}
 use Rattle.run_work.specs.Runs.{reporting, PrintsNext, as_printed}
 use Rattle.run_work.specs.Writings.{Writing}
 use Rattle.snap_outside.specs.Causes.{Rose}
-use Rattle.snap_recover.specs.declared.openings.Opening.{Opening}
+use Rattle.run_opening.specs.snap_recover.declared.openings.Opening.{Opening}
 use Rattle.snap_work.specs.Works.{Work}
-use Rattle.txn_records.specs.declared.records.Record.{Record}
+use Rattle.run_opening.specs.txn_records.declared.records.Record.{Record}
 
 -- ---- the logs that failed: those that are shut
 

@@ -2,11 +2,11 @@
 use Rattle.std.proofs.Common.{◌≡◌, ◌⊎◌, inl, inr, ℕ, ◌≤◌, List, [], ◌++◌, flat_map, length, refl, sym, ◌∙◌, subst, arith, Bool, true, false, Option, Result, Ok, Err}
 use Rattle.std.specs.Prelude.{IfOk}
 use Rattle.std.proofs.KnownBytes.{Appends-trans, Appends-kept}
-use Rattle.core_events.specs.declared.events.Event.{Event}
-use Rattle.log_opening.specs.Devices.{Device}
-use Rattle.log_opening.specs.declared.refusals.LogsNo.{LogsNo}
+use Rattle.snap_core.specs.core_events.declared.events.Event.{Event}
+use Rattle.run_opening.specs.log_opening.Devices.{Device}
+use Rattle.run_opening.specs.log_opening.declared.refusals.LogsNo.{LogsNo}
 use Rattle.protocol.specs.Events as machine
-use Rattle.run_effects.specs.Lines.{replies_text}
+use Rattle.solo_host.specs.run_effects.Lines.{replies_text}
 use Rattle.run_printing.specs.Printed.{unsure_line}
 use Rattle.run_recovery.specs.Runs.{machine_of, meant}
 use Rattle.run_recovery.specs.Schedules.{Schedule, seeded, free}
@@ -16,11 +16,11 @@ use Rattle.run_work.specs.Runs.{Printing, reporting, summing, replies_by, ending
 use Rattle.run_work.specs.Untraced.{IsEnding, IsRunEnd, IsToldUnbegun, IsUntraced, IsEndOf, EndsUntraced}
 use Rattle.run_work.specs.declared.hosts.Hosted.{Hosted}
 use Rattle.run_work.specs.Writings.{Writing, WritesNothing, IsSilent, Writes, WritesFront, WritesBehind, WritesLines}
-use Rattle.snap_recover.specs.declared.openings.Opening.{Opening}
+use Rattle.run_opening.specs.snap_recover.declared.openings.Opening.{Opening}
 use Rattle.snap_report.specs.declared.statuses.Status.{Status}
 use Rattle.snap_work.specs.Works.{Work}
-use Rattle.run_effects.specs.declared.stops.Stop.{Stop}
-use Rattle.run_effects.specs.declared.stops.Stop.TheVariants as stop
+use Rattle.solo_host.specs.run_effects.declared.stops.Stop.{Stop}
+use Rattle.solo_host.specs.run_effects.declared.stops.Stop.TheVariants as stop
 
 -- ---- what is written, one after the other
 

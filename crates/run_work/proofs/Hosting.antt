@@ -4,16 +4,16 @@ use Rattle.std.proofs.lemmas.Bool.{eqb-true, true≢false}
 use Rattle.std.proofs.KnownBytes.{Appends-nil, Appends-kept}
 use Rattle.std.specs.Prelude.{IfSome, IfOk}
 use Rattle.std.specs.List.{AllByRecursion}
-use Rattle.aml_slice.specs.Controls.{Rest}
-use Rattle.gate_log.specs.State.{LogState}
-use Rattle.core_events.specs.declared.events.Event.{Event}
-use Rattle.log_opening.specs.Devices.{Device}
-use Rattle.log_opening.specs.declared.refusals.LogsNo.{LogsNo}
+use Rattle.snap_core.specs.aml_slice.Controls.{Rest}
+use Rattle.run_opening.specs.gate_log.State.{LogState}
+use Rattle.snap_core.specs.core_events.declared.events.Event.{Event}
+use Rattle.run_opening.specs.log_opening.Devices.{Device}
+use Rattle.run_opening.specs.log_opening.declared.refusals.LogsNo.{LogsNo}
 use Rattle.protocol.specs.Events as machine
 use Rattle.protocol.specs.Fixed.{Fixed}
-use Rattle.protocol_schedule.specs.Draw.{IsFrontOfSeed}
-use Rattle.record_log.specs.Growth.{GrewBy}
-use Rattle.run_effects.specs.Groups.{groups_of, group_behind}
+use Rattle.solo_host.specs.protocol_schedule.Draw.{IsFrontOfSeed}
+use Rattle.run_opening.specs.record_log.Growth.{GrewBy}
+use Rattle.solo_host.specs.run_effects.Groups.{groups_of, group_behind}
 use Rattle.run_recovery.specs.Runs.{machine_of, meant, none_failed, only_failed, tried_on}
 use Rattle.run_recovery.specs.Schedules.{Schedule, seeded, free, IsTakenBy}
 use Rattle.run_work.specs.declared.hosts.Hosted.{Hosted}
@@ -22,13 +22,13 @@ use Rattle.run_work.specs.Runs.{Printing, reporting, summing, replies_by, as_pri
 use Rattle.run_work.specs.Writings.{Writing, WritesNothing, IsSilent, Writes}
 use Rattle.snap_core.specs.Cores.{CoreState, IsAt}
 use Rattle.snap_outside.specs.Causes.{Rose}
-use Rattle.snap_recover.specs.declared.openings.Opening.{Opening}
+use Rattle.run_opening.specs.snap_recover.declared.openings.Opening.{Opening}
 use Rattle.snap_work.specs.Works.{Work}
-use Rattle.run_effects.specs.Driven.{IsDriven}
+use Rattle.solo_host.specs.run_effects.Driven.{IsDriven}
 use Rattle.solo_host.specs.Drives as host
-use Rattle.run_effects.specs.declared.stops.Stop.{Stop}
-use Rattle.run_effects.specs.declared.stops.Stop.TheVariants as stop
-use Rattle.txn_records.specs.declared.records.Record.{Record}
+use Rattle.solo_host.specs.run_effects.declared.stops.Stop.{Stop}
+use Rattle.solo_host.specs.run_effects.declared.stops.Stop.TheVariants as stop
+use Rattle.run_opening.specs.txn_records.declared.records.Record.{Record}
 
 -- ---- how it ended
 

@@ -7,3 +7,4 @@ pub mod Hosting
 pub mod OnDevices
 pub mod Replied
 pub mod RunDevices
+pub use Rattle.run_printing.proofs as run_printing

@@ -1,9 +1,9 @@
 -- What a host left on open logs, on all devices.
 use Rattle.std.proofs.Common.{◌≡◌, ◌++◌, List, length, map, drop, sym, subst}
-use Rattle.gate_log.specs.State.{LogState}
-use Rattle.log_opening.specs.Devices.{Device, as_device}
-use Rattle.log_opening.specs.declared.refusals.LogsNo.{LogsNo}
-use Rattle.log_opening.specs.declared.refusals.LogsNo.TheVariants as ending
+use Rattle.run_opening.specs.gate_log.State.{LogState}
+use Rattle.run_opening.specs.log_opening.Devices.{Device, as_device}
+use Rattle.run_opening.specs.log_opening.declared.refusals.LogsNo.{LogsNo}
+use Rattle.run_opening.specs.log_opening.declared.refusals.LogsNo.TheVariants as ending
 use Rattle.run_opening.specs.Opens.{AreSafe, HasRoomToBegin, IsNoRun, MayOpen, OpensRun}
 use Rattle.run_recovery.specs.Runs.{meant}
 use Rattle.run_recovery.specs.Schedules.{Schedule}
@@ -14,9 +14,9 @@ use Rattle.run_work.specs.Runs.{Printing}
 use Rattle.run_work.specs.Writings.{Writing}
 use Rattle.run_work.specs.declared.hosts.Hosted.{Hosted}
 use Rattle.snap_base.specs.declared.transactions.State.{State}
-use Rattle.snap_recover.specs.declared.openings.Opening.{Opening}
+use Rattle.run_opening.specs.snap_recover.declared.openings.Opening.{Opening}
 use Rattle.snap_work.specs.Works.{Work}
-use Rattle.txn_records.specs.declared.records.Record.{Record}
+use Rattle.run_opening.specs.txn_records.declared.records.Record.{Record}
 
 pub hosted_on : (p : Printing) (w : Work) (schedule : Schedule) (o : Opening) (before after others : List Device) (old new : List LogState) (replies : Writing) (h : Hosted)
     → (states : List State) (records : List (List Record)) (added : List Record) → states ≡ w.states → OpensRun before old states o records added → length records ≡ w.logs → HasRoomToBegin o

@@ -1,22 +1,22 @@
 -- What a run leaves on its devices: what opening left on its open logs, and what a host made of these, log by log.
 use Rattle.std.proofs.Common.{◌≡◌, ℕ, ◌<◌, ◌≤◌, zero, suc, List, [], ◌∷◌, ◌++◌, length, map, drop, refl, sym, ◌∙◌, ap, subst, arith, Bool, Option}
 use Rattle.std.specs.List.{AllByRecursion}
-use Rattle.gate_log.specs.State.{LogState, log_at}
-use Rattle.log_opening.specs.Devices.{Device, HoldNoOld, as_device, device_at}
+use Rattle.run_opening.specs.gate_log.State.{LogState, log_at}
+use Rattle.run_opening.specs.log_opening.Devices.{Device, HoldNoOld, as_device, device_at}
 use Rattle.protocol.specs.Events as machine
-use Rattle.record_log.specs.Growth.{GrewBy}
+use Rattle.run_opening.specs.record_log.Growth.{GrewBy}
 use Rattle.run_opening.specs.Opens.{HasRoomToBegin, OpensRun, IsRunLog, first_groups, records_at}
 use Rattle.run_opening.specs.Starts.{IsStart}
-use Rattle.run_effects.specs.Groups.{groups_of, group_behind}
+use Rattle.solo_host.specs.run_effects.Groups.{groups_of, group_behind}
 use Rattle.run_recovery.specs.Runs.{IsRunDevice, HasRun, tried_on, machine_of}
 use Rattle.run_recovery.specs.Schedules.{Schedule}
 use Rattle.run_work.specs.Hosts.{HasDriven, HasLeft}
 use Rattle.snap_base.specs.declared.transactions.State.{State}
 use Rattle.snap_outside.specs.Causes.{Rose}
-use Rattle.snap_recover.specs.declared.openings.Opening.{Opening}
+use Rattle.run_opening.specs.snap_recover.declared.openings.Opening.{Opening}
 use Rattle.snap_work.specs.Works.{Work}
-use Rattle.run_effects.specs.Driven.{IsDriven}
-use Rattle.txn_records.specs.declared.records.Record.{Record}
+use Rattle.solo_host.specs.run_effects.Driven.{IsDriven}
+use Rattle.run_opening.specs.txn_records.declared.records.Record.{Record}
 
 -- ---- logs and devices by their numbers
 

@@ -1,8 +1,8 @@
 -- What a call is handed, and what it gives back, as contracts see it.
 use Rattle.std.specs.Prelude.{ℕ, Option, List}
 use Rattle.std.specs.Global.{Vec}
-use Rattle.core_events.specs.declared.events.Event.{Event}
-use Rattle.log_opening.specs.Devices.{Device, devices_of}
+use Rattle.snap_core.specs.core_events.declared.events.Event.{Event}
+use Rattle.run_opening.specs.log_opening.Devices.{Device, devices_of}
 use Rattle.run_recovery.specs.Schedules.{Schedule}
 use Rattle.run_work.specs.Runs.{Ran}
 use Rattle.run_work.specs.Writings.{Writing}

@@ -1,30 +1,30 @@
 -- Only private contracts cite this; the answers are Runs.antt.
 -- What a host makes of a work, wherever its replies go: on open logs, and on all devices.
 use Rattle.std.specs.Prelude.{◌≡◌, ℕ, ◌<◌, ◌≤◌, ◌⊎◌, Bool, true, false, Option, None, Some, Result, Ok, Err, List, length, ⊤}
-use Rattle.aml_slice.specs.Controls.{Rest}
-use Rattle.gate_log.specs.State.{LogState}
-use Rattle.log_opening.specs.declared.refusals.LogsNo.{LogsNo}
-use Rattle.log_opening.specs.declared.refusals.LogsNo.TheVariants as ending
-use Rattle.log_opening.specs.Devices.{Device, device_at}
+use Rattle.snap_core.specs.aml_slice.Controls.{Rest}
+use Rattle.run_opening.specs.gate_log.State.{LogState}
+use Rattle.run_opening.specs.log_opening.declared.refusals.LogsNo.{LogsNo}
+use Rattle.run_opening.specs.log_opening.declared.refusals.LogsNo.TheVariants as ending
+use Rattle.run_opening.specs.log_opening.Devices.{Device, device_at}
 use Rattle.protocol.specs.Events as machine
 use Rattle.protocol.specs.Fixed.{Fixed}
 use Rattle.run_opening.specs.Opens.{AreSafe, IsNoRun, MayOpen}
-use Rattle.run_effects.specs.Driven.{IsDriven}
-use Rattle.run_effects.specs.Groups.{groups_of, group_behind}
+use Rattle.solo_host.specs.run_effects.Driven.{IsDriven}
+use Rattle.solo_host.specs.run_effects.Groups.{groups_of, group_behind}
 use Rattle.run_recovery.specs.Runs.{HasRun, machine_of, meant, none_failed, only_failed, IsLeastOf, tried_on, GoesOnWith, HasEnded}
 use Rattle.run_recovery.specs.Schedules.{Schedule, seeded, free, IsTakenBy}
 use Rattle.run_work.specs.Runs.{Printing, Printed, reporting, summing, replies_in, PrintsNext, as_printed}
 use Rattle.run_work.specs.Writings.{Writing, IsSilent, Writes}
 use Rattle.run_work.specs.declared.hosts.Hosted.{Hosted}
 use Rattle.snap_core.specs.Cores.{CoreState, IsAt}
-use Rattle.snap_hand.specs.Tables.{fixed_of}
+use Rattle.snap_core.specs.snap_hand.Tables.{fixed_of}
 use Rattle.snap_outside.specs.Causes.{Rose}
-use Rattle.snap_recover.specs.declared.openings.Opening.{Opening}
+use Rattle.run_opening.specs.snap_recover.declared.openings.Opening.{Opening}
 use Rattle.snap_work.specs.Works.{Work}
 use Rattle.solo_host.specs.Drives.{log_at}
-use Rattle.run_effects.specs.declared.stops.Stop.{Stop}
-use Rattle.run_effects.specs.declared.stops.Stop.TheVariants as stop
-use Rattle.txn_records.specs.declared.records.Record.{Record}
+use Rattle.solo_host.specs.run_effects.declared.stops.Stop.{Stop}
+use Rattle.solo_host.specs.run_effects.declared.stops.Stop.TheVariants as stop
+use Rattle.run_opening.specs.txn_records.declared.records.Record.{Record}
 
 -- ---- what it leaves on its logs
 

@@ -1,16 +1,16 @@
 -- What a run of a work prints, and the answers of the commands that run one.
 use Rattle.std.specs.Prelude.{◌≡◌, ◌≢◌, ℕ, ◌<◌, ◌⊎◌, Bool, true, List, [], ◌++◌, length, Contains, ⊤}
-use Rattle.aml_slice.specs.Controls.{Rest}
-use Rattle.core_events.specs.declared.events.Event.{Event}
-use Rattle.log_opening.specs.declared.refusals.LogsNo.{LogsNo}
-use Rattle.log_opening.specs.declared.refusals.LogsNo.TheVariants as ending
-use Rattle.log_opening.specs.Devices.{Device, device_at}
+use Rattle.snap_core.specs.aml_slice.Controls.{Rest}
+use Rattle.snap_core.specs.core_events.declared.events.Event.{Event}
+use Rattle.run_opening.specs.log_opening.declared.refusals.LogsNo.{LogsNo}
+use Rattle.run_opening.specs.log_opening.declared.refusals.LogsNo.TheVariants as ending
+use Rattle.run_opening.specs.log_opening.Devices.{Device, device_at}
 use Rattle.protocol.specs.Events as machine
 use Rattle.protocol.specs.Fixed.{Fixed}
 use Rattle.protocol.specs.Report.{replied}
 use Rattle.protocol.specs.Runs.{reached}
 use Rattle.run_opening.specs.Opens.{AreSafe, IsNoRun}
-use Rattle.run_effects.specs.Lines.{line_in, replies_text, ending_text}
+use Rattle.solo_host.specs.run_effects.Lines.{line_in, replies_text, ending_text}
 use Rattle.run_printing.specs.Printed.{traced_line, unanswered, unsure_line}
 use Rattle.run_printing.specs.Summed.{summing_text}
 use Rattle.run_recovery.specs.OneRun.{the_run}
@@ -19,11 +19,11 @@ use Rattle.run_recovery.specs.Schedules.{Schedule, seeded, free}
 use Rattle.run_recovery.specs.Stands.{RunStands}
 use Rattle.run_work.specs.Writings.{Writing, WritesNothing, Writes, WritesBehind, WritesLines}
 use Rattle.snap_outside.specs.Causes.{Rose}
-use Rattle.snap_recover.specs.declared.openings.Opening.{Opening}
+use Rattle.run_opening.specs.snap_recover.declared.openings.Opening.{Opening}
 use Rattle.snap_report.specs.declared.statuses.Status.{Status}
 use Rattle.snap_report.specs.declared.statuses.Status.TheVariants as status
 use Rattle.snap_work.specs.Works.{Work}
-use Rattle.trace_text.specs.Traces.{trace_of}
+use Rattle.run_printing.specs.trace_text.Traces.{trace_of}
 
 -- ---- what it prints
 

@@ -1,6 +1,6 @@
 -- How refusals from below end the top call.
-use Rattle.log_opening.specs.declared.refusals.LogsNo.{LogsNo}
-use Rattle.log_opening.specs.declared.refusals.LogsNo.TheVariants as ending
+use Rattle.run_opening.specs.log_opening.declared.refusals.LogsNo.{LogsNo}
+use Rattle.run_opening.specs.log_opening.declared.refusals.LogsNo.TheVariants as ending
 use Rattle.snap_report.specs.declared.statuses.Status.{Status}
 use Rattle.snap_report.specs.declared.statuses.Status.TheVariants as status
 

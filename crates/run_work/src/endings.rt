@@ -1,7 +1,7 @@
 //! How a call ends: what is printed behind the replies, the trace, and the status.
 ghost use Rattle.std.specs.Prelude.{◌≡◌, ◌≢◌, ◌≤◌, ℕ, [], map, true, IfSome, IfOk, IsErrOf, OnOk, OnErr};
-ghost use Rattle.aml_slice.specs.Controls.{Rest};
-ghost use Rattle.core_events.specs.Meant.{event_meant};
+ghost use Rattle.snap_core.specs.aml_slice.Controls.{Rest};
+ghost use Rattle.snap_core.specs.core_events.Meant.{event_meant};
 ghost use Rattle.protocol.specs.Fixed.{Fixed};
 ghost use Rattle.run_work.specs.Hosts.{IsCoreOf, StopsSo};
 ghost use Rattle.run_work.specs.Printings.{printing_of};
@@ -10,18 +10,17 @@ ghost use Rattle.run_work.specs.Statuses.{logs_status};
 ghost use Rattle.run_work.specs.Untraced.{IsEnding, EndsUntraced, IsCallEnd, IsToldUnbegun, IsTraced};
 ghost use Rattle.run_work.specs.Writings.{Writes, WritesFront, writing_of};
 ghost use Rattle.snap_core.specs.Cores.{IsAt};
-ghost use Rattle.snap_hand.specs.Tables.{fixed_of};
+ghost use Rattle.snap_core.specs.snap_hand.Tables.{fixed_of};
 ghost use Rattle.snap_outside.specs.Causes.{Rose, EndsAtFault};
 
 use crate::hosts::Hosted;
 use crate::printings::Told;
-use core_events::Event;
-use log_opening::LogsNo;
-use run_effects::Stop;
+use run_opening::LogsNo;
 use run_printing::{WriteNo, write_ending, write_summary, write_trace, write_unsures};
-use snap_core::Core;
+use snap_core::{Core, Event};
 use snap_outside::Sink;
 use snap_report::Status;
+use solo_host::Stop;
 use std::alloc::Global;
 
 /// Ends the run that a host left so, of so many transactions: prints what comes behind the replies, or what is printed where no

@@ -14,4 +14,7 @@ mod runs;
 pub use calls::Call;
 pub use endings::status_of;
 pub use printings::Told;
+pub use run_printing::push_actor;
 pub use runs::{HasRun, crew_summary, crew_work, run_work};
+pub use snap_core::Event;
+pub use solo_host::write_all;

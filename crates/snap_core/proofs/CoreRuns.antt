@@ -4,11 +4,11 @@ use Rattle.std.specs.Prelude.{IfSome}
 use Rattle.aml_slice.specs.Controls.{Rest}
 use Rattle.core_events.specs.Meant.{event_meant}
 use Rattle.core_events.specs.declared.events.Event as code
-use Rattle.core_rows.specs.OnRuns.{HasRun}
-use Rattle.core_rows.specs.declared.step_no.StepNo.{StepNo}
-use Rattle.core_rows.specs.declared.step_no.StepNo.TheVariants.{NotNow, Memory}
+use Rattle.snap_hand.specs.core_rows.OnRuns.{HasRun}
+use Rattle.snap_hand.specs.core_rows.declared.step_no.StepNo.{StepNo}
+use Rattle.snap_hand.specs.core_rows.declared.step_no.StepNo.TheVariants.{NotNow, Memory}
 use Rattle.protocol.specs.Conditions.{IsAllowed}
-use Rattle.log_set.specs.Shown.{told_bytes}
+use Rattle.snap_hand.specs.log_set.Shown.{told_bytes}
 use Rattle.protocol.specs.Effects.{after, log_at}
 use Rattle.protocol.specs.Events.{Event, footprint}
 use Rattle.protocol.specs.Fixed.{Fixed}
@@ -25,7 +25,7 @@ use Rattle.snap_hand.proofs.Held.{all_here}
 use Rattle.snap_hand.specs.Hands.{Parts, Fits}
 use Rattle.snap_hand.specs.Steps.{MayBeAsked, IsRefusalOn, IsStep}
 use Rattle.snap_hand.specs.Tables.{fixed_of}
-use Rattle.ready_news.specs.New.{IsBehind}
+use Rattle.ready_renewal.specs.ready_news.New.{IsBehind}
 use Rattle.snap_hand.specs.declared.tables.Tables.{Tables}
 
 abbrev pub core_of : Tables → Parts → CoreState

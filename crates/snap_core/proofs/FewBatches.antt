@@ -2,7 +2,7 @@
 use Rattle.std.proofs.Common.{◌≡◌, ◌≤◌, Bool, filter, Some, List, length, sym, subst, arith}
 use Rattle.std.proofs.lemmas.List.Sums.{count_by-le-length, length-filter}
 use Rattle.aml_slice.specs.Controls.{Rest}
-use Rattle.core_rows.specs.OnRuns.{HasRun}
+use Rattle.snap_hand.specs.core_rows.OnRuns.{HasRun}
 use Rattle.protocol.specs.Fixed.{Fixed, IsText}
 use Rattle.protocol.specs.Events.{Event}
 use Rattle.protocol.specs.Numbers.{NumbersDrawnOnce}

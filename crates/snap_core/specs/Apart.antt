@@ -1,7 +1,7 @@
 -- A core taken apart.
 use Rattle.std.specs.Prelude.{◌≡◌, Some, List, map}
 use Rattle.aml_slice.specs.Controls.{Rest}
-use Rattle.core_rows.specs.OnRuns.{HasRun}
+use Rattle.snap_hand.specs.core_rows.OnRuns.{HasRun}
 use Rattle.protocol.specs.Fixed.{Fixed}
 use Rattle.protocol.specs.Parts.{Machine}
 use Rattle.snap_core.specs.Cores.{CoreState}

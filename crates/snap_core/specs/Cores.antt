@@ -1,8 +1,8 @@
 -- What a core is, and the run that it has come from.
 use Rattle.std.specs.Prelude.{◌≡◌, ℕ, ◌≤◌, true, [], ◌∷◌, ◌++◌, List}
 use Rattle.aml_slice.specs.Controls.{Rest}
-use Rattle.core_rows.specs.declared.step_no.StepNo.{StepNo}
-use Rattle.core_rows.specs.declared.step_no.StepNo.TheVariants.{NotNow, Memory}
+use Rattle.snap_hand.specs.core_rows.declared.step_no.StepNo.{StepNo}
+use Rattle.snap_hand.specs.core_rows.declared.step_no.StepNo.TheVariants.{NotNow, Memory}
 use Rattle.protocol.specs.Conditions.{IsAllowed, refusal}
 use Rattle.protocol.specs.Events.{Event}
 use Rattle.protocol.specs.Parts.{Machine}

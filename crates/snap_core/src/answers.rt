@@ -1,6 +1,6 @@
 //! What a core tells: its text, what became of a transaction, an actor's state, and the records that wait for a sync.
 ghost use Rattle.std.specs.Prelude.{◌≡◌, ◌<◌, List, length, map, drop, IfOk};
-ghost use Rattle.log_set.specs.Shown.{told_bytes};
+ghost use Rattle.snap_hand.specs.log_set.Shown.{told_bytes};
 ghost use Rattle.protocol.specs.Effects.{cell_at, log_at};
 ghost use Rattle.protocol.specs.Events as machine;
 ghost use Rattle.protocol.specs.Verdicts.{verdict};

@@ -1,6 +1,6 @@
 //! The core: a text and all parts of the machine, opened, and stepped by events.
 ghost use Rattle.std.specs.Prelude.{◌≡◌, [], List, IfOk, IfErr, OnOk, OnErr};
-ghost use Rattle.core_rows.specs.OnRuns.{HasRun};
+ghost use Rattle.snap_hand.specs.core_rows.OnRuns.{HasRun};
 ghost use Rattle.protocol.specs.Events as machine;
 ghost use Rattle.protocol.specs.Runs.{IsRun, reached};
 ghost use Rattle.core_events.specs.Meant.{event_meant};
@@ -9,10 +9,9 @@ ghost use Rattle.snap_hand.specs.Tables.{AreTables, fixed_of};
 
 use aml_slice::Control;
 use core_events::Event;
-use core_rows::runs_go_on;
 use machine_laws::texts_have_the_facts;
 use snap_base::Memory;
-use snap_hand::{Hand, StepNo, Tables, apply, refusal};
+use snap_hand::{Hand, StepNo, Tables, apply, refusal, runs_go_on};
 use std::alloc::Global;
 use std::marker::Model;
 
@@ -27,7 +26,7 @@ pub struct Core {
 impl Model for Core {
     ghost use Rattle.std.specs.Coded.{codes};
     ghost use denote.Builtin.{u8, u16};
-    ghost use Rattle.aml_tree.specs.contracts.trees.Statement as statement;
+    ghost use Rattle.aml_slice.specs.aml_tree.contracts.trees.Statement as statement;
     ghost use Rattle.snap_core.specs.Cores.{CoreState, IsCore};
 
     ghost Value = { CoreState };

@@ -13,6 +13,9 @@ mod renewals;
 mod settling;
 mod verdicts;
 
+pub use aml_slice::Control;
+pub use core_events::Event;
 pub use cores::Core;
 pub use parting::one_core_of_parts;
-pub use snap_hand::{Hand, Part, StepNo, Tables, apply};
+pub use ready_list::ReadyList;
+pub use snap_hand::{Hand, Opening, Part, StepNo, Tables, Work, apply, fresh, works_are_texts};

@@ -7,9 +7,9 @@ ghost use Rattle.snap_core.specs.Cores.{IsAt, state_at};
 
 use crate::Core;
 use aml_slice::Control;
-use batch_table::Desk;
 use protocol_laws::numbers_are_drawn_once;
 use protocol_theorems::sizes_hold;
+use snap_hand::Desk;
 
 impl Core {
     /// How many batches are settled. It walks all batches, so it is asked once, at an end.

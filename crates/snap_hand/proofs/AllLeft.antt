@@ -2,10 +2,10 @@
 use Rattle.std.proofs.Common.{◌≡◌, ℕ, suc, ◌+◌, ◌-◌, ◌^◌, ◌<◌, min, Option, Some, None, option_map, List, [], ◌∷◌, length, map, drop, slice_get, refl, sym, ap, ◌∙◌, arith}
 use Rattle.std.proofs.lemmas.List.{length-map, length-drop}
 use Rattle.aml_slice.specs.Controls.{Rest}
-use Rattle.book_part.specs.Halves.{Halves, Shows}
-use Rattle.book_part.proofs.Shown.{is_book}
-use Rattle.log_set.specs.Shown.{ShowsLog, told_bytes}
-use Rattle.log_set.specs.Logs.{LogList}
+use Rattle.core_rows.specs.book_part.Halves.{Halves, Shows}
+use Rattle.core_rows.proofs.book_part.Shown.{is_book}
+use Rattle.core_rows.specs.log_set.Shown.{ShowsLog, told_bytes}
+use Rattle.core_rows.specs.log_set.Logs.{LogList}
 use Rattle.protocol.specs.BookParts.{with_votes}
 use Rattle.protocol.specs.Conditions.{epoch}
 use Rattle.protocol.specs.Events.{cell, log}

@@ -3,15 +3,15 @@ use Rattle.std.proofs.Common.{◌≡◌, ℕ, ◌<◌, ◌==◌, ◌&&◌, ◌�
 use Rattle.std.proofs.lemmas.List.{length-set}
 use Rattle.std.proofs.lemmas.Option.{slice_get_within}
 use Rattle.aml_slice.specs.Controls.{Rest}
-use Rattle.book_part.specs.Halves.{Halves}
-use Rattle.cell_part.specs.Room.{Roomed}
-use Rattle.core_facts.specs.RowsMay.{RowsMay}
+use Rattle.core_rows.specs.book_part.Halves.{Halves}
+use Rattle.core_rows.specs.cell_part.Room.{Roomed}
+use Rattle.core_rows.specs.core_facts.RowsMay.{RowsMay}
 use Rattle.core_rows.specs.OnRuns.{HasRun}
 use Rattle.core_rows.specs.Showing.{ShowsBook, ShowsCell, ShowsDesk, ShowsPost}
 use Rattle.core_rows.specs.Taken.{IsNo, IsOfRun, IsRule, IsTaken}
 use Rattle.core_rows.specs.declared.step_no.StepNo.{StepNo}
 use Rattle.core_rows.specs.declared.step_no.StepNo.TheVariants.{NotNow}
-use Rattle.post_box.specs.PostBox.{PostBox}
+use Rattle.core_rows.specs.post_box.PostBox.{PostBox}
 use Rattle.protocol.specs.Conditions.{IsAllowed, refusal, conditions, epoch}
 use Rattle.protocol.specs.Effects.{after}
 use Rattle.protocol.specs.Events.{Event, Arrive, Ask, Take, Close, Finish, Trim, cell}

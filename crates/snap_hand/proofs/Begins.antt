@@ -2,11 +2,11 @@
 use Rattle.std.proofs.Common.{◌≡◌, ℕ, ◌<◌, ◌%◌, Some, None, Result, OnOk, OnErr, IfErr, length, slice_get, slice_set, refl, sym, ap, subst, ◌∙◌}
 use Rattle.std.proofs.Math.Nat.{mod-lt}
 use Rattle.aml_slice.specs.Controls.{Rest}
-use Rattle.book_part.specs.Halves.{Halves}
+use Rattle.core_rows.specs.book_part.Halves.{Halves}
 use Rattle.core_rows.specs.Showing.{ShowsBook, ShowsDesk, ShowsLogAt, ShowsRing}
 use Rattle.core_rows.specs.Taken.{IsNo, IsTaken}
 use Rattle.core_rows.specs.declared.step_no.StepNo.{StepNo}
-use Rattle.log_set.specs.Logs.{LogList, PendingState}
+use Rattle.core_rows.specs.log_set.Logs.{LogList, PendingState}
 use Rattle.protocol.specs.Effects.{after}
 use Rattle.protocol.specs.Events.{Form, Admit, log}
 use Rattle.protocol.specs.Fixed.{Fixed, IsText}

@@ -7,8 +7,8 @@ use Rattle.std.proofs.lemmas.Option.{slice_get_past, slice_get_read}
 use Rattle.snap_base.proofs.Options.{some_there, there_at}
 use Rattle.snap_base.proofs.Lists.{get_left, get_behind}
 use Rattle.aml_slice.specs.Controls.{Rest}
-use Rattle.book_part.specs.Halves.{Halves}
-use Rattle.log_set.specs.Logs.{LogList}
+use Rattle.core_rows.specs.book_part.Halves.{Halves}
+use Rattle.core_rows.specs.log_set.Logs.{LogList}
 use Rattle.protocol.specs.Events.{log, cell}
 use Rattle.protocol.specs.Parts.{Ring, Post, Desk, Cell}
 use Rattle.snap_hand.specs.Hands.{Parts, Has, IsWhole}

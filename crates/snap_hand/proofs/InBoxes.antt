@@ -1,9 +1,9 @@
 -- What shows of a part that stands in a box shows of it where the box lends it.
 use Rattle.std.proofs.Common.{◌≡◌, Option, Some, sym, ap, ◌∙◌}
 use Rattle.aml_slice.specs.Controls.{Rest}
-use Rattle.cell_part.specs.Room.{Roomed}
-use Rattle.log_set.specs.Logs.{LogList, PendingState}
-use Rattle.post_box.specs.PostBox.{PostBox}
+use Rattle.core_rows.specs.cell_part.Room.{Roomed}
+use Rattle.core_rows.specs.log_set.Logs.{LogList, PendingState}
+use Rattle.core_rows.specs.post_box.PostBox.{PostBox}
 use Rattle.protocol.specs.Parts.{Cell, Post}
 
 -- the ring, the book or the desk

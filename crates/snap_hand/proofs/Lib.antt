@@ -14,3 +14,7 @@ pub mod Numbered
 pub mod PartsFit
 pub mod OneHand
 pub mod AllLeft
+pub use Rattle.aml_slice.proofs.aml_tokens as aml_tokens
+pub use Rattle.snap_recover.proofs as snap_recover
+pub use Rattle.aml_slice.proofs.aml_tree as aml_tree
+pub use Rattle.core_rows.proofs as core_rows

@@ -1,12 +1,12 @@
 -- Events at a log of the hand: the log by the number that writes to it, and what is put back beside it.
 use Rattle.std.proofs.Common.{◌≡◌, ℕ, ◌%◌, true, Some, None, Result, Ok, Err, OnOk, OnErr, IfErr, slice_get, slice_set, sym, ap, subst, ◌∙◌}
 use Rattle.aml_slice.specs.Controls.{Rest}
-use Rattle.book_part.specs.Halves.{Halves}
-use Rattle.cell_part.specs.Room.{Roomed}
+use Rattle.core_rows.specs.book_part.Halves.{Halves}
+use Rattle.core_rows.specs.cell_part.Room.{Roomed}
 use Rattle.core_rows.specs.Showing.{ShowsBook, ShowsCell, ShowsDesk, ShowsLogAt}
 use Rattle.core_rows.specs.Taken.{IsNo, IsRule, IsTaken}
 use Rattle.core_rows.specs.declared.step_no.StepNo.{StepNo}
-use Rattle.log_set.specs.Logs.{LogList, PendingState}
+use Rattle.core_rows.specs.log_set.Logs.{LogList, PendingState}
 use Rattle.protocol.specs.Conditions.{IsAllowed}
 use Rattle.protocol.specs.Effects.{after}
 use Rattle.protocol.specs.Events.{Event, log}

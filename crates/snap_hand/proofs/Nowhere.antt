@@ -4,7 +4,7 @@ use Rattle.std.specs.List.{AllByRecursion}
 use Rattle.std.proofs.lemmas.Bool.Decides.{nat_tests}
 use Rattle.std.proofs.lemmas.Option.{slice_get_past}
 use Rattle.aml_slice.specs.Controls.{Rest}
-use Rattle.core_facts.specs.RowsMay.{RowsMay}
+use Rattle.core_rows.specs.core_facts.RowsMay.{RowsMay}
 use Rattle.core_rows.specs.OnRuns.{HasRun}
 use Rattle.protocol.specs.Conditions.{IsAllowed, first_false, refusal, conditions}
 use Rattle.protocol.specs.Events.{Event, Prepare, Sync}

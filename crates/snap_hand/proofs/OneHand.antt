@@ -1,8 +1,8 @@
 -- A hand is told by its places, and by how many of them are for logs.
 use Rattle.std.proofs.Common.{◌≡◌, ℕ, Option, Some, None, option_map, List, [], ◌∷◌, ◌++◌, length, map, take, drop, refl, sym, ap, ◌∙◌}
 use Rattle.aml_slice.specs.Controls.{Rest}
-use Rattle.book_part.specs.Halves.{Halves}
-use Rattle.log_set.specs.Logs.{LogList}
+use Rattle.core_rows.specs.book_part.Halves.{Halves}
+use Rattle.core_rows.specs.log_set.Logs.{LogList}
 use Rattle.protocol.specs.Parts.{Ring, Post, Desk, Cell}
 use Rattle.snap_hand.specs.Hands.{Parts}
 use Rattle.snap_hand.specs.Shown.{Shown, TheRing, TheBook, ThePost, TheDesk, TheLog, TheCell, places, no_parts}

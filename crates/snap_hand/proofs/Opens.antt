@@ -4,9 +4,9 @@ use Rattle.std.proofs.lemmas.List.{length-map, length-replicate}
 use Rattle.snap_base.specs.declared.transactions.State.{State}
 use Rattle.snap_base.proofs.Options.{is_same_some}
 use Rattle.aml_slice.specs.Controls.{Rest}
-use Rattle.book_part.specs.Halves.{Halves, Shows}
-use Rattle.log_set.specs.Shown.{ShowsLog}
-use Rattle.log_set.specs.Logs.{LogList, no_records}
+use Rattle.core_rows.specs.book_part.Halves.{Halves, Shows}
+use Rattle.core_rows.specs.log_set.Shown.{ShowsLog}
+use Rattle.core_rows.specs.log_set.Logs.{LogList, no_records}
 use Rattle.protocol.specs.Effects.{no_log}
 use Rattle.protocol.specs.Fixed.{Fixed, base}
 use Rattle.protocol.specs.Parts.{Ring, Post, Desk, Cell}

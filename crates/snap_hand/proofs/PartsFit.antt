@@ -4,9 +4,9 @@ use Rattle.std.proofs.lemmas.Bool.{ltb-true, ltb-false}
 use Rattle.std.proofs.lemmas.List.{length-set}
 use Rattle.std.proofs.lemmas.Option.{slice_get_within}
 use Rattle.aml_slice.specs.Controls.{Rest}
-use Rattle.book_part.specs.Halves.{Shows}
-use Rattle.log_set.specs.Shown.{ShowsLog}
-use Rattle.log_set.specs.Logs.{LogList}
+use Rattle.core_rows.specs.book_part.Halves.{Shows}
+use Rattle.core_rows.specs.log_set.Shown.{ShowsLog}
+use Rattle.core_rows.specs.log_set.Logs.{LogList}
 use Rattle.protocol.specs.Fixed.{Fixed}
 use Rattle.protocol.specs.Parts.{Log, Cell, Machine}
 use Rattle.snap_hand.specs.Hands.{Parts, Fits, IsHandOf}

@@ -5,7 +5,7 @@ use Rattle.std.specs.List.{AllByRecursion}
 use Rattle.std.proofs.lemmas.Bool.{true≢false}
 use Rattle.std.proofs.lemmas.Option.{get_or_from_slice_get}
 use Rattle.snap_base.specs.declared.transactions.State.{State}
-use Rattle.aml_tree.specs.Tree.{CheckedMethod}
+use Rattle.aml_slice.specs.aml_tree.Tree.{CheckedMethod}
 use Rattle.aml_check.specs.Checked.{methods_of}
 use Rattle.aml_slice.specs.Controls.{Rest, IsRest, RestsOn}
 use Rattle.core_rows.specs.OnRuns.{HasRun}

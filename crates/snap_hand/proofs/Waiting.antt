@@ -2,8 +2,8 @@
 use Rattle.std.proofs.Common.{◌≡◌, ℕ, Some, Result, Ok, Err, IfOk, map, drop, List, slice_get, sym, ap, ◌∙◌}
 use Rattle.std.proofs.lemmas.Option.{get_or_from_slice_get}
 use Rattle.aml_slice.specs.Controls.{Rest}
-use Rattle.log_set.specs.Shown.{ShowsLog, told_bytes}
-use Rattle.log_set.specs.Logs.{LogList}
+use Rattle.core_rows.specs.log_set.Shown.{ShowsLog, told_bytes}
+use Rattle.core_rows.specs.log_set.Logs.{LogList}
 use Rattle.protocol.specs.Effects.{no_log, log_at}
 use Rattle.protocol.specs.Parts.{Log, Machine}
 

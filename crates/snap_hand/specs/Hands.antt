@@ -2,9 +2,9 @@
 use Rattle.std.specs.Prelude.{◌≡◌, ℕ, ◌≤◌, Bool, true, false, ◌∷◌, ◌++◌, Option, Some, None, is_some, List, length, map, slice_get}
 use Rattle.std.specs.List.{AllByRecursion}
 use Rattle.aml_slice.specs.Controls.{Rest}
-use Rattle.book_part.specs.Halves.{Halves, Shows}
-use Rattle.log_set.specs.Shown.{ShowsLog}
-use Rattle.log_set.specs.Logs.{LogList}
+use Rattle.core_rows.specs.book_part.Halves.{Halves, Shows}
+use Rattle.core_rows.specs.log_set.Shown.{ShowsLog}
+use Rattle.core_rows.specs.log_set.Logs.{LogList}
 use Rattle.protocol.specs.Events.{Event, footprint}
 use Rattle.protocol.specs.Fixed.{Fixed}
 use Rattle.protocol.specs.Parts.{Ring, Post, Desk, Log, Cell, Machine}

@@ -1,8 +1,8 @@
 -- The hand that a run begins with: its logs and cells, and its four other parts.
 use Rattle.std.specs.Prelude.{Option, None, Some, List, [], length, map, replicate}
 use Rattle.aml_slice.specs.Controls.{Rest}
-use Rattle.book_part.specs.Halves.{Halves}
-use Rattle.log_set.specs.Logs.{LogList, no_records}
+use Rattle.core_rows.specs.book_part.Halves.{Halves}
+use Rattle.core_rows.specs.log_set.Logs.{LogList, no_records}
 use Rattle.protocol.specs.BookParts.{no_orders, no_votes}
 use Rattle.protocol.specs.Fixed.{Fixed, base}
 use Rattle.protocol.specs.Parts.{Ring, Post, Desk, Cell}

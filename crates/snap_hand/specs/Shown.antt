@@ -2,9 +2,9 @@
 use Rattle.std.specs.Prelude.{◌≡◌, ℕ, zero, suc, ◌+◌, ◌-◌, ◌<◌, ◌≤◌, nat_lt, if◌then◌else◌, Option, Some, None, option_map, List, ◌∷◌, ◌++◌, length, map, replicate, slice_get, slice_set}
 use Rattle.std.specs.Option.{option_flatten}
 use Rattle.aml_slice.specs.Controls.{Rest}
-use Rattle.book_part.specs.Halves.{Halves, Shows}
-use Rattle.log_set.specs.Shown.{ShowsLog}
-use Rattle.log_set.specs.Logs.{LogList}
+use Rattle.core_rows.specs.book_part.Halves.{Halves, Shows}
+use Rattle.core_rows.specs.log_set.Shown.{ShowsLog}
+use Rattle.core_rows.specs.log_set.Logs.{LogList}
 use Rattle.protocol.specs.Events as part
 use Rattle.protocol.specs.Fixed.{Fixed}
 use Rattle.protocol.specs.Parts.{Ring, Post, Desk, Log, Cell, Machine}

@@ -11,14 +11,9 @@ ghost use Rattle.snap_hand.specs.Tables.{AreTables, fixed_of};
 use crate::tables::{base, log_of};
 use crate::{Hand, Tables};
 use aml_slice::Control;
-use batch_table::Desk;
-use book_part::BookPart;
-use core_rows::StepNo;
-use log_set::LogPart;
-use post_box::Post;
+use core_rows::{BookPart, Desk, LogPart, Post, Ring, StepNo};
 use snap_base::{Bid, Tid, Tx};
 use std::alloc::Global;
-use token_ring::Ring;
 
 /// Which of the conditions of Form is the first false one, or 0.
 pub(crate) fn form_refusal(tables: &Tables, hand: &Hand, k: Bid) -> u8

@@ -1,14 +1,9 @@
 //! The hand: parts of the machine by their numbers, as contracts see them.
 
 use aml_slice::Control;
-use batch_table::Desk;
-use book_part::BookPart;
-use cell_part::CellPart;
-use log_set::LogPart;
-use post_box::Post;
+use core_rows::{BookPart, CellPart, Desk, LogPart, Post, Ring};
 use std::boxed::Box;
 use std::marker::Model;
-use token_ring::Ring;
 
 /// Parts of the machine at hand, by their numbers: the ring, the book, the post, the desk, then the logs, then the cells.
 /// Contracts see for each whether it is there and what it shows. Each has a box of its own, made where a run begins, so that to

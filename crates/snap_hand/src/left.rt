@@ -9,15 +9,10 @@ ghost use Rattle.snap_hand.specs.Tables.{fixed_of};
 
 use crate::{Hand, Tables};
 use aml_slice::Control;
-use batch_table::Desk;
-use book_part::BookPart;
-use cell_part::CellPart;
-use log_set::LogPart;
-use post_box::Post;
+use core_rows::{BookPart, CellPart, Desk, LogPart, Post, Ring};
 use protocol::Visits;
 use snap_base::Tid;
 use std::boxed::Box;
-use token_ring::Ring;
 
 /// What a transaction that is still to be submitted may bring, and one that waits at a coordinator.
 const TO_SUBMIT: u64 = 927;

@@ -21,11 +21,16 @@ mod running;
 mod tables;
 mod tellings;
 
-pub use core_rows::StepNo;
+pub use aml_slice::Control;
+pub use core_events::{DESK, FIRST_LOG, first_cell};
+pub use core_rows::{BookPart, CellPart, Desk, Post, Ring, StepNo, rows_may_be_taken, runs_go_on};
 pub use events::{apply, refusal};
 pub use hand::Hand;
+pub use machine_text::works_are_texts;
 pub use part_laws::{
     places_are_set, places_tell_the_hand, putting_fits, taken_is_put_back, taking_fits,
 };
 pub use parts::Part;
+pub use snap_recover::{Opening, fresh};
+pub use snap_work::{MOST_WORKERS, Work};
 pub use tables::Tables;

@@ -1,7 +1,7 @@
 //! The hand that a run begins with.
 ghost use Rattle.std.specs.Prelude.{◌≡◌, ◌≤◌, ◌<◌, ◌^◌, None, Some, IfOk, OnOk, [], length, map, option_map, replicate};
-ghost use Rattle.book_part.specs.Halves.{Halves};
-ghost use Rattle.log_set.specs.Logs.{no_records};
+ghost use Rattle.core_rows.specs.book_part.Halves.{Halves};
+ghost use Rattle.core_rows.specs.log_set.Logs.{no_records};
 ghost use Rattle.protocol.specs.BookParts.{no_orders, no_votes};
 ghost use Rattle.protocol.specs.Fixed as fixed;
 ghost use Rattle.protocol.specs.Runs.{new_cell, opening, opening_ring};
@@ -12,15 +12,10 @@ ghost use Rattle.snap_hand.specs.Tables.{AreTables, fixed_of, text_of};
 use crate::tables::base;
 use crate::{Hand, Tables};
 use aml_slice::Control;
-use batch_table::Desk;
-use book_part::{BookPart, halves_stay_of_their_book};
-use cell_part::CellPart;
-use log_set::LogPart;
-use post_box::Post;
+use core_rows::{BookPart, CellPart, Desk, LogPart, Post, Ring, halves_stay_of_their_book};
 use snap_base::{Bid, Memory, State};
 use std::alloc::Global;
 use std::boxed::Box;
-use token_ring::Ring;
 
 /// How many transactions the text has.
 fn tx_count(tables: &Tables) -> u32

@@ -9,16 +9,11 @@ ghost use Rattle.snap_hand.specs.Tables.{fixed_of};
 
 use crate::{Hand, Tables};
 use aml_slice::Control;
-use batch_table::Desk;
-use book_part::BookPart;
-use cell_part::CellPart;
 use core_events::{BOOK, DESK, FIRST_LOG, POST, RING};
-use log_set::LogPart;
-use post_box::Post;
+use core_rows::{BookPart, CellPart, Desk, LogPart, Post, Ring};
 use snap_base::Memory;
 use std::alloc::Global;
 use std::boxed::Box;
-use token_ring::Ring;
 
 /// One part of the machine. The number that it has in a hand tells its kind: `RING`, `BOOK`, `POST` and `DESK` of `core_events`,
 /// from `FIRST_LOG` on the logs, and from `first_cell` on the cells.

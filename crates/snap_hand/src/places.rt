@@ -1,7 +1,7 @@
 //! Taking single parts out of a hand, and putting them back.
 ghost use Rattle.std.specs.Prelude.{◌≡◌, ◌<◌, ◌++◌, nat_lt, None, Some, is_some, length, map, slice_get, slice_set};
-ghost use Rattle.log_set.specs.Logs.{LogList};
-ghost use Rattle.book_part.specs.Halves.{Halves};
+ghost use Rattle.core_rows.specs.log_set.Logs.{LogList};
+ghost use Rattle.core_rows.specs.book_part.Halves.{Halves};
 ghost use Rattle.protocol.specs.Parts as parts;
 ghost use Rattle.protocol.specs.Parts.{Cell};
 ghost use Rattle.aml_slice.specs.Controls.{Rest};
@@ -9,15 +9,10 @@ ghost use Rattle.snap_hand.specs.Hands.{is_at_hand, is_not_out};
 
 use crate::Hand;
 use aml_slice::Control;
-use batch_table::Desk;
-use book_part::BookPart;
-use cell_part::CellPart;
 use core_events::{BOOK, DESK, FIRST_LOG, POST, RING};
-use log_set::LogPart;
-use post_box::Post;
+use core_rows::{BookPart, CellPart, Desk, LogPart, Post, Ring};
 use snap_base::ActorId;
 use std::boxed::Box;
-use token_ring::Ring;
 
 impl Hand {
     /// Whether the hand has a place for the cell of this actor: whether the text has such an actor. Its cell may be out.

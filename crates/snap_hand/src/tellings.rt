@@ -2,7 +2,7 @@
 //! about every state that the hand fits.
 ghost use Rattle.std.specs.Prelude.{◌≡◌, ◌<◌, length, map, drop, IfOk};
 ghost use Rattle.aml_slice.specs.Controls.{Rest};
-ghost use Rattle.log_set.specs.Shown.{told_bytes};
+ghost use Rattle.core_rows.specs.log_set.Shown.{told_bytes};
 ghost use Rattle.protocol.specs.Effects.{cell_at, log_at};
 ghost use Rattle.protocol.specs.Events.{book, desk, log, cell};
 ghost use Rattle.protocol.specs.Parts.{Machine};

@@ -2,7 +2,7 @@
 use Rattle.std.proofs.Common.{◌≡◌, ◌⊎◌, inl, inr, ℕ, List, Option, IfSome, refl, subst}
 use Rattle.command_words.specs.CommandLaws.{OneCommand}
 use Rattle.command_words.specs.Words.{IsBench}
-use Rattle.run_recovery.specs.Schedules.{Schedule}
+use Rattle.run_work.specs.run_recovery.Schedules.{Schedule}
 use Rattle.run_work.specs.Runs.{Printing, reporting, summing, Ran, IsAnswerOf, IsWorkAnswer, IsOfLogs}
 use Rattle.run_work.specs.Writings.{Writing}
 use Rattle.snap_outside.specs.Causes.{Rose}
@@ -16,7 +16,7 @@ use Rattle.work_gen.specs.Generated.{generated_text}
 use Rattle.snap_run.specs.Uses.{Use}
 use Rattle.snap_work.specs.declared.faults.WorkFault.{WorkFault}
 use Rattle.snap_work.specs.Works.{Work}
-use Rattle.txn_records.specs.declared.records.Record.{Record}
+use Rattle.record_log.specs.txn_records.declared.records.Record.{Record}
 use Rattle.work_text.specs.Reads.{IsWork, IsFirstWorkFault}
 
 -- what the law fault_or_work of work_text says

@@ -7,8 +7,8 @@ use Rattle.snap_work.specs.Works.{Work}
 use Rattle.work_text.specs.Reads.{IsWork}
 use Rattle.record_log.specs.Records.{KeepsRecords}
 use Rattle.log_opening.specs.Devices.{Device, IsOpenedAtMost}
-use Rattle.run_opening.specs.Opens.{MayOpen}
-use Rattle.run_recovery.specs.Schedules.{free}
+use Rattle.run_work.specs.run_opening.Opens.{MayOpen}
+use Rattle.run_work.specs.run_recovery.Schedules.{free}
 use Rattle.run_work.specs.Runs.{Printing, Ran, IsAnswerOf, IsWorkAnswer, IsOfLogs}
 use Rattle.run_work.specs.Writings.{Writing, WritesNothing}
 use Rattle.snap_recover.specs.declared.openings.Opening.{Opening}
@@ -25,7 +25,7 @@ use Rattle.snap_run.specs.Answers.{OfText, schedule_asked, ran_of, ReadsNothing,
 use Rattle.snap_run.specs.Answers.{IsMeasured, ran, recovered, generated, measured, migrated, refused, GetsNoCall, IsUntroubled, MayBeMeasured}
 use Rattle.work_gen.specs.Generated.{generated_text}
 use Rattle.snap_run.specs.Outcomes.{IsOutcome}
-use Rattle.txn_records.specs.declared.records.Record.{Record}
+use Rattle.record_log.specs.txn_records.declared.records.Record.{Record}
 
 -- ---- the words ask for one thing
 

@@ -6,9 +6,9 @@ use Rattle.command_words.specs.CommandLaws.{OneCommand}
 use Rattle.command_words.specs.Words.{IsMigrate, IsRecover}
 use Rattle.snap_outside.specs.Causes.{Rose}
 use Rattle.snap_outside.specs.Disk.{content}
-use Rattle.gate_log.specs.declared.opens.OpenNo.TheVariants as refusal
-use Rattle.gate_log.specs.Opened.{Opened, Refused}
-use Rattle.txn_records.specs.declared.records.Record.{Record}
+use Rattle.record_log.specs.gate_log.declared.opens.OpenNo.TheVariants as refusal
+use Rattle.record_log.specs.gate_log.Opened.{Opened, Refused}
+use Rattle.record_log.specs.txn_records.declared.records.Record.{Record}
 use Rattle.record_log.specs.Records.{HoldsRecords}
 use Rattle.record_log.specs.RecordLogLaws.{OneListOfRecords, RecordsAreNotForeign, RecordsAreNotDamaged, NoRecordIsBad}
 use Rattle.snap_recover.specs.declared.openings.Opening.{Opening}
@@ -23,8 +23,8 @@ use Rattle.snap_report.specs.declared.statuses.Status.TheVariants as status
 use Rattle.log_opening.specs.Devices.{Device, device_at}
 use Rattle.log_opening.specs.Found.{IsRecoveryCause}
 use Rattle.log_opening.specs.Kept.{logs_said, DeviceHolds, AreGiven, IsLogAsked, IsLogRefused}
-use Rattle.run_opening.specs.Opens.{TellsRecords}
-use Rattle.run_recovery.specs.Recoverable.{AreRecoverable}
+use Rattle.run_work.specs.run_opening.Opens.{TellsRecords}
+use Rattle.run_work.specs.run_recovery.Recoverable.{AreRecoverable}
 use Rattle.snap_run.specs.Uses.{Use}
 use Rattle.snap_run.specs.Answers.{IsAnswer, ran, recovered, generated, measured, migrated, refused}
 use Rattle.snap_run.specs.Migrations.{IsMigrateAnswer, migrate_done, migrate_refused, migrate_memory, migrate_log_fault, migrate_out_fault}

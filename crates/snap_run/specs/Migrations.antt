@@ -4,7 +4,7 @@ use Rattle.command_words.specs.Words.{IsMigrate}
 use Rattle.log_migration.specs.Migrated.{AreMigrated, IsMigrateNo}
 use Rattle.log_opening.specs.Devices.{Device, device_at}
 use Rattle.log_opening.specs.declared.refusals.LogsNo.TheVariants as ending
-use Rattle.run_recovery.specs.Recoverable.{AreRecoverable}
+use Rattle.run_work.specs.run_recovery.Recoverable.{AreRecoverable}
 use Rattle.run_work.specs.Writings.{Writing, WritesNothing, Writes, WritesFront}
 use Rattle.snap_outside.specs.Causes.{Rose}
 use Rattle.snap_recover.specs.declared.causes.LogCause.{LogCause}
@@ -13,7 +13,7 @@ use Rattle.snap_report.specs.Lines.{migrated_text}
 use Rattle.snap_report.specs.declared.statuses.Status.{Status}
 use Rattle.snap_report.specs.declared.statuses.Status.TheVariants as status
 use Rattle.snap_run.specs.Uses.{Use}
-use Rattle.txn_records.specs.declared.records.Record.{Record}
+use Rattle.record_log.specs.txn_records.declared.records.Record.{Record}
 
 -- the answers of the command that makes logs of format 1 ones of format 2
 pub data IsMigrateAnswer (before after : List Device) (out : Writing) : Status → Type 0 where

@@ -1,8 +1,8 @@
 -- Why the command that prints what the logs recover to answers what it answers.
 use Rattle.std.specs.Prelude.{ℕ, ◌<◌, List, ◌++◌, length}
 use Rattle.snap_outside.specs.Causes.{Rose}
-use Rattle.txn_records.specs.declared.records.Record.{Record}
-use Rattle.run_recovery.specs.Recoverable.{AreRecoverable}
+use Rattle.record_log.specs.txn_records.declared.records.Record.{Record}
+use Rattle.run_work.specs.run_recovery.Recoverable.{AreRecoverable}
 use Rattle.snap_recover.specs.declared.causes.LogCause.{LogCause}
 use Rattle.snap_recover.specs.declared.openings.Opening.{Opening}
 use Rattle.snap_recover.specs.Opening.{IsRecovered}

@@ -1,7 +1,7 @@
 -- What a call was given and what it left, as contracts see it.
 use Rattle.std.specs.Prelude.{ℕ, List, Option}
 use Rattle.std.specs.Global.{Vec}
-use Rattle.core_events.specs.declared.events.Event.{Event}
+use Rattle.run_work.specs.core_events.declared.events.Event.{Event}
 use Rattle.log_opening.specs.Devices.{Device}
 use Rattle.run_work.specs.Calls.{CallState, call_of, written}
 use Rattle.run_work.specs.Writings.{Writing}

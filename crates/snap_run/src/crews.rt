@@ -2,7 +2,7 @@
 ghost use Rattle.std.specs.Prelude.{◌≡◌, ◌≢◌, ◌<◌, ◌≤◌, ℕ, List, [], map, string_bytes, vec_len};
 ghost use Rattle.command_words.specs.Words.{IsRunCommand, IsBench};
 ghost use Rattle.command_words.specs.Workers.{AskFor};
-ghost use Rattle.run_recovery.specs.Schedules.{free};
+ghost use Rattle.run_work.specs.run_recovery.Schedules.{free};
 ghost use Rattle.run_work.specs.Runs.{IsOfLogs, OutStood};
 ghost use Rattle.snap_outside.specs.Causes.{EndsAtFault};
 ghost use Rattle.snap_recover.specs.declared.openings.Opening.{Opening};
@@ -12,7 +12,7 @@ ghost use Rattle.snap_run.specs.Outcomes.{IsOutcome};
 ghost use Rattle.snap_run.specs.Uses.{Reading, Use, reading_of, use_of};
 ghost use Rattle.snap_work.specs.Works.{Work};
 ghost use Rattle.snap_work.specs.declared.limits.TheConstants.{MOST_TRANSACTIONS, MOST_WORKERS};
-ghost use Rattle.txn_records.specs.declared.records.Record.{Record};
+ghost use Rattle.record_log.specs.txn_records.declared.records.Record.{Record};
 
 use crate::works::{generated_work, read_work};
 use command_words::{Command, one_command, read_words};

@@ -11,11 +11,11 @@ ghost use Rattle.snap_run.specs.Outcomes.{IsOutcome};
 ghost use Rattle.snap_run.specs.Recoveries.{IsRecoverable};
 ghost use Rattle.snap_run.specs.Uses.{Use};
 ghost use Rattle.snap_work.specs.Works.{Work};
-ghost use Rattle.txn_records.specs.declared.records.Record.{Record};
+ghost use Rattle.record_log.specs.txn_records.declared.records.Record.{Record};
 
 use command_words::one_command;
-use core_events::Event;
 use record_log::{no_more_records, one_list_of_records};
+use run_work::Event;
 use snap_recover::refused_is_not_recovered;
 use snap_report::Status;
 use work_text::fault_or_work;

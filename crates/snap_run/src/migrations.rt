@@ -8,8 +8,7 @@ ghost use Rattle.snap_outside.specs.Causes.{EndsAtFault};
 ghost use Rattle.snap_run.specs.Migrations.{IsMigrateAnswer};
 
 use log_migration::migrate;
-use run_effects::write_all;
-use run_work::status_of;
+use run_work::{status_of, write_all};
 use snap_outside::{LogDev, Sink};
 use snap_report::Status;
 use std::alloc::Global;

@@ -9,9 +9,7 @@ ghost use Rattle.run_work.specs.Writings.{writing_of};
 ghost use Rattle.snap_run.specs.Recoveries.{recovered_report, IsRecoverAnswer};
 
 use log_opening::recover_kept;
-use run_effects::write_all;
-use run_printing::push_actor;
-use run_work::status_of;
+use run_work::{push_actor, status_of, write_all};
 use snap_base::{ActorId, Bid, Memory, Place, State, Tid};
 use snap_outside::{LogDev, Sink};
 use snap_recover::{Kept, Opening};

@@ -11,7 +11,7 @@ ghost use Rattle.snap_run.specs.Outcomes.{IsOutcome};
 ghost use Rattle.snap_run.specs.Recoveries.{IsRecoverable};
 ghost use Rattle.snap_run.specs.Uses.{Use, use_by};
 ghost use Rattle.snap_work.specs.Works.{Work};
-ghost use Rattle.txn_records.specs.declared.records.Record.{Record};
+ghost use Rattle.record_log.specs.txn_records.declared.records.Record.{Record};
 
 use crate::crews::crew_answer;
 use crate::endings::{Outcome, done_or_no_memory};

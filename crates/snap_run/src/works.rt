@@ -11,7 +11,7 @@ ghost use Rattle.snap_work.specs.declared.limits.TheConstants.{MOST_TRANSACTIONS
 ghost use Rattle.work_gen.specs.Generated.{generated_text};
 ghost use Rattle.work_text.specs.Reads.{IsWork};
 
-use run_effects::write_all;
+use run_work::write_all;
 use snap_base::Memory;
 use snap_outside::{Failed, Sink, Source};
 use snap_report::Status;

@@ -11,8 +11,8 @@ use Rattle.protocol.specs.Fixed.{Fixed}
 use Rattle.protocol.specs.Runs.{IsRun, reached}
 use Rattle.protocol_schedule.specs.Draw.{IsFrontOfSeed}
 use Rattle.run_effects.specs.Sizes.{most_bytes}
-use Rattle.record_log.specs.Growth.{end_behind_groups}
-use Rattle.record_log.specs.declared.limits.TheConstants.{FARTHEST_APPEND}
+use Rattle.run_effects.specs.record_log.Growth.{end_behind_groups}
+use Rattle.run_effects.specs.record_log.declared.limits.TheConstants.{FARTHEST_APPEND}
 use Rattle.run_effects.specs.Groups.{groups_of, group_by}
 use Rattle.run_effects.specs.Laws.{line_by}
 use Rattle.run_effects.specs.Lines.{replies_text}

@@ -5,7 +5,7 @@ use Rattle.run_effects.specs.Driven.{IsDriven}
 use Rattle.run_effects.proofs.Driving.{driven_join, driven_same}
 use Rattle.solo_host.specs.Drives.{log_at}
 use Rattle.solo_host.specs.Outside.{Got, no_group, no_fault, AreAllOpen}
-use Rattle.txn_records.specs.declared.records.Record.{Record}
+use Rattle.snap_core.specs.txn_records.declared.records.Record.{Record}
 
 pub got_nothing : (logs : List LogState) → AreAllOpen logs → Got logs logs no_group no_fault
 got_nothing logs ready = record { many = refl; each = λ l within. driven_same (log_at logs l) (ready l within) }

@@ -3,8 +3,8 @@ use Rattle.std.proofs.Common.{◌≡◌, ℕ, zero, suc, ◌-◌, None, Some, Op
 use Rattle.std.specs.Prelude.{IfSome}
 use Rattle.std.proofs.lemmas.List.{length-append, length-map}
 use Rattle.aml_slice.specs.Controls.{Rest}
-use Rattle.core_events.specs.declared.events.Event as code
-use Rattle.core_events.specs.Meant.{event_meant}
+use Rattle.snap_core.specs.core_events.declared.events.Event as code
+use Rattle.snap_core.specs.core_events.Meant.{event_meant}
 use Rattle.protocol.specs.Events.{Event}
 use Rattle.protocol.specs.Fixed.{Fixed}
 use Rattle.protocol.specs.Parts.{Machine}
@@ -12,10 +12,10 @@ use Rattle.protocol.specs.Runs.{IsQuiet}
 use Rattle.protocol.specs.Schedule.{IsEnabled, pick}
 use Rattle.protocol_schedule.specs.Draw.{draw_of, word_of}
 use Rattle.rand_pcg.specs.Lcg.{Lcg}
-use Rattle.ready_renewal.specs.Covering.{Covers, IsFirst}
+use Rattle.snap_core.specs.ready_renewal.Covering.{Covers, IsFirst}
 use Rattle.snap_core.specs.Cores.{CoreState, IsAt, state_at}
-use Rattle.snap_hand.specs.Tables.{fixed_of}
-use Rattle.snap_hand.specs.declared.tables.Tables.{Tables}
+use Rattle.snap_core.specs.snap_hand.Tables.{fixed_of}
+use Rattle.snap_core.specs.snap_hand.declared.tables.Tables.{Tables}
 use Rattle.solo_host.specs.Outside.{IsPicked, Outside}
 use Rattle.solo_host.specs.Turns.{HasGoneOn, IsBehindWords, IsKeptFor, IsOneBehind}
 use Rattle.solo_host.proofs.Picking.{none_enabled}

@@ -10,7 +10,7 @@ use Rattle.aml_slice.specs.Controls.{Rest}
 use Rattle.gate_log.specs.Device.{MayAppend}
 use Rattle.gate_log.specs.declared.logs.AppendNo.{AppendNo}
 use Rattle.gate_log.specs.declared.logs.AppendNo.TheVariants as append
-use Rattle.log_set.specs.Shown.{told_bytes}
+use Rattle.snap_core.specs.log_set.Shown.{told_bytes}
 use Rattle.protocol.specs.Effects as effects
 use Rattle.gate_log.specs.State.{LogState, IsUntouched}
 use Rattle.protocol.specs.Conditions.{IsAllowed, conditions}
@@ -20,18 +20,18 @@ use Rattle.protocol.specs.Parts.{Log, Machine}
 use Rattle.protocol.specs.Runs.{IsRun, reached}
 use Rattle.protocol.specs.Verdicts.{verdict}
 use Rattle.protocol.specs.Words.{holds}
-use Rattle.record_log.specs.Growth.{MayAppendGroup}
-use Rattle.record_log.specs.GrowthLaws.{GroupGrows, FaultGrows}
-use Rattle.record_log.specs.Records.{spelled}
+use Rattle.run_effects.specs.record_log.Growth.{MayAppendGroup}
+use Rattle.run_effects.specs.record_log.GrowthLaws.{GroupGrows, FaultGrows}
+use Rattle.run_effects.specs.record_log.Records.{spelled}
 use Rattle.run_effects.specs.Groups.{group_by, group_behind}
 use Rattle.run_effects.specs.Laws.{line_by}
 use Rattle.run_effects.specs.Lines.{line_in, verdict_line}
 use Rattle.snap_base.specs.declared.ids.TxNo.{TxNo}
 use Rattle.protocol_laws.proofs.machine.TracksKept.{in_range}
 use Rattle.snap_outside.specs.Causes.{Rose}
-use Rattle.core_events.specs.declared.events.Event as code
-use Rattle.core_events.specs.declared.events.Event.TheVariants as events
-use Rattle.core_events.specs.Meant.{event_meant}
+use Rattle.snap_core.specs.core_events.declared.events.Event as code
+use Rattle.snap_core.specs.core_events.declared.events.Event.TheVariants as events
+use Rattle.snap_core.specs.core_events.Meant.{event_meant}
 use Rattle.run_effects.specs.Appending.{IsAppended, IsNotAppended, IsCutOff}
 use Rattle.run_effects.specs.Driven.{IsDriven}
 use Rattle.run_effects.specs.RunsOf.{RunsOf}
@@ -40,7 +40,7 @@ use Rattle.solo_host.specs.Drives.{log_at, tried_on}
 use Rattle.solo_host.specs.Outside.{Got, no_group, no_fault, AreLow, AreOfFormat2, AreAllOpen, IsPrepared, IsGivenUp, IsSynced, IsNotSynced, outside, stop_of}
 use Rattle.run_effects.specs.declared.stops.Stop.{Stop}
 use Rattle.run_effects.specs.declared.stops.Stop.TheVariants as stop
-use Rattle.txn_records.specs.declared.records.Record.{Record}
+use Rattle.snap_core.specs.txn_records.declared.records.Record.{Record}
 
 -- ---- one of the logs is changed
 

@@ -6,9 +6,9 @@ use Rattle.gate_log.specs.State.{LogState}
 use Rattle.protocol.specs.Conditions.{IsAllowed}
 use Rattle.std.proofs.lemmas.List.{length-append, length-map}
 use Rattle.aml_slice.specs.Controls.{Rest}
-use Rattle.core_events.specs.declared.events.Event as code
-use Rattle.core_events.specs.declared.events.Event.TheVariants as events
-use Rattle.core_events.specs.Meant.{event_meant}
+use Rattle.snap_core.specs.core_events.declared.events.Event as code
+use Rattle.snap_core.specs.core_events.declared.events.Event.TheVariants as events
+use Rattle.snap_core.specs.core_events.Meant.{event_meant}
 use Rattle.protocol.specs.Events.{Event, Sync, Reply}
 use Rattle.protocol.specs.Fixed.{Fixed}
 use Rattle.protocol.specs.Parts.{Machine}
@@ -16,10 +16,10 @@ use Rattle.protocol.specs.Runs.{IsRun, reached}
 use Rattle.run_effects.specs.Groups.{group_by}
 use Rattle.run_effects.specs.Laws.{line_by}
 use Rattle.snap_core.specs.Cores.{CoreState, IsAt}
-use Rattle.snap_hand.specs.Steps.{may_want}
-use Rattle.protocol_theorems.specs.Left.{most_events}
-use Rattle.snap_hand.specs.Tables.{fixed_of}
-use Rattle.snap_hand.specs.declared.tables.Tables.{Tables}
+use Rattle.snap_core.specs.snap_hand.Steps.{may_want}
+use Rattle.snap_core.specs.protocol_theorems.Left.{most_events}
+use Rattle.snap_core.specs.snap_hand.Tables.{fixed_of}
+use Rattle.snap_core.specs.snap_hand.declared.tables.Tables.{Tables}
 use Rattle.run_effects.specs.Driven.{IsDriven}
 use Rattle.solo_host.specs.Drives.{log_at, tried_on}
 use Rattle.run_effects.specs.RunsOf.{RunsOf}

@@ -14,7 +14,7 @@ use Rattle.run_effects.specs.Lines.{line_in, replies_text}
 use Rattle.snap_outside.specs.Causes.{Rose}
 use Rattle.run_effects.specs.declared.stops.Stop.{Stop}
 use Rattle.run_effects.specs.declared.stops.Stop.TheVariants as stop
-use Rattle.txn_records.specs.declared.records.Record.{Record}
+use Rattle.snap_core.specs.txn_records.declared.records.Record.{Record}
 
 -- ---- the logs
 

@@ -13,7 +13,7 @@ use Rattle.protocol.specs.Runs.{IsQuiet, reached}
 use Rattle.protocol.specs.Schedule.{IsEnabled, pick}
 use Rattle.protocol_schedule.specs.Draw.{draw_of}
 use Rattle.run_effects.specs.Sizes.{most_bytes}
-use Rattle.record_log.specs.declared.limits.TheConstants.{FARTHEST_APPEND}
+use Rattle.run_effects.specs.record_log.declared.limits.TheConstants.{FARTHEST_APPEND}
 use Rattle.run_effects.specs.Driven.{IsDriven}
 use Rattle.run_effects.specs.Groups.{group_by}
 use Rattle.run_effects.specs.Laws.{line_by}
@@ -22,7 +22,7 @@ use Rattle.snap_outside.specs.Causes.{Rose}
 use Rattle.solo_host.specs.Drives.{log_at, tried_on}
 use Rattle.run_effects.specs.declared.stops.Stop.{Stop}
 use Rattle.run_effects.specs.declared.stops.Stop.TheVariants as stop
-use Rattle.txn_records.specs.declared.records.Record.{Record}
+use Rattle.snap_core.specs.txn_records.declared.records.Record.{Record}
 
 -- ---- the outside: the logs, what the output took, and how often it failed
 

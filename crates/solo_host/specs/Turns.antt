@@ -10,9 +10,9 @@ use Rattle.protocol.specs.Parts.{Machine}
 use Rattle.protocol.specs.Runs.{reached}
 use Rattle.protocol.specs.Schedule.{IsEnabled}
 use Rattle.protocol_schedule.specs.Draw.{generator_of}
-use Rattle.ready_renewal.specs.Covering.{Covers}
+use Rattle.snap_core.specs.ready_renewal.Covering.{Covers}
 use Rattle.snap_core.specs.Cores.{CoreState, IsAt}
-use Rattle.snap_hand.specs.Tables.{fixed_of}
+use Rattle.snap_core.specs.snap_hand.Tables.{fixed_of}
 use Rattle.solo_host.specs.Drives.{tried_on}
 use Rattle.solo_host.specs.Outside.{Outside, Got, no_group, IsPrepared, IsPicked, IsEnd}
 use Rattle.run_effects.specs.declared.stops.Stop.{Stop}

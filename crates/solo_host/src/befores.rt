@@ -1,20 +1,19 @@
 //! What is done before an event.
 ghost use Rattle.std.specs.Prelude.{◌≡◌, List, length, IsErrOf, MatchResult};
-ghost use Rattle.core_events.specs.Meant.{event_meant};
+ghost use Rattle.snap_core.specs.core_events.Meant.{event_meant};
 ghost use Rattle.protocol.specs.Conditions.{IsAllowed};
 ghost use Rattle.protocol.specs.Events as machine;
 ghost use Rattle.snap_core.specs.Cores.{IsAt, state_at};
-ghost use Rattle.snap_hand.specs.Tables.{fixed_of};
+ghost use Rattle.snap_core.specs.snap_hand.Tables.{fixed_of};
 ghost use Rattle.snap_outside.specs.Causes.{EndsAtFault};
 ghost use Rattle.run_effects.specs.RunsOf.{RunsOf};
 ghost use Rattle.solo_host.specs.Outside.{AreLow, AreOfFormat2, AreAllOpen, outside, IsPrepared, IsGivenUp};
 
 use crate::groups::before_sync;
 use crate::replies::before_reply;
-use core_events::Event;
 use gate_log::Log;
 use run_effects::Stop;
-use snap_core::Core;
+use snap_core::{Core, Event};
 use snap_outside::{LogDev, Sink};
 use std::alloc::Global;
 

@@ -1,20 +1,18 @@
 //! A core with its logs and its output, run by one thread.
 ghost use Rattle.std.specs.Prelude.{◌≡◌, ◌≢◌, ◌+◌, ◌≤◌, ◌^◌, [], List, length, map, false};
 ghost use Rattle.std.specs.List.{AllByRecursion};
-ghost use Rattle.core_events.specs.Meant.{event_meant};
+ghost use Rattle.snap_core.specs.core_events.Meant.{event_meant};
 ghost use Rattle.protocol_schedule.specs.Draw.{IsFrontOfSeed};
 ghost use Rattle.snap_core.specs.Cores.{IsAt};
-ghost use Rattle.snap_hand.specs.Tables.{fixed_of};
+ghost use Rattle.snap_core.specs.snap_hand.Tables.{fixed_of};
 ghost use Rattle.snap_outside.specs.Causes.{EndsAtFault};
 ghost use Rattle.solo_host.specs.Drives.{AreDriven, IsPrinted, IsWhy};
 
 use crate::picks::generator_of;
 use crate::turns::turn;
-use core_events::Event;
 use gate_log::{FARTHEST_END, Log};
-use ready_list::ReadyList;
 use run_effects::{Stop, runs_of};
-use snap_core::Core;
+use snap_core::{Core, Event, ReadyList};
 use snap_outside::{LogDev, Sink};
 use std::alloc::Global;
 

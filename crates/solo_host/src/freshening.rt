@@ -1,16 +1,14 @@
 //! What is kept of the allowed events from turn to turn.
 ghost use Rattle.std.specs.Prelude.{List, [], ◌∷◌, ◌++◌, map, OnOk};
-ghost use Rattle.core_events.specs.Meant.{event_meant};
+ghost use Rattle.snap_core.specs.core_events.Meant.{event_meant};
 ghost use Rattle.protocol.specs.Events as machine;
 ghost use Rattle.protocol.specs.Schedule.{IsEnabled};
 ghost use Rattle.snap_core.specs.Cores.{IsAt, state_at};
-ghost use Rattle.snap_hand.specs.Tables.{fixed_of};
+ghost use Rattle.snap_core.specs.snap_hand.Tables.{fixed_of};
 ghost use Rattle.solo_host.specs.Turns.{IsKeptFor, IsOneBehind};
 
-use core_events::Event;
-use ready_list::ReadyList;
 use snap_base::Memory;
-use snap_core::Core;
+use snap_core::{Core, Event, ReadyList};
 use std::alloc::Global;
 
 /// Lists all that is allowed now.

@@ -2,13 +2,12 @@
 ghost use Rattle.std.specs.Prelude.{◌≡◌, ◌<◌, ℕ, List, length, false, MatchResult};
 ghost use Rattle.protocol.specs.Events as machine;
 ghost use Rattle.snap_core.specs.Cores.{IsAt};
-ghost use Rattle.snap_hand.specs.Tables.{fixed_of};
+ghost use Rattle.snap_core.specs.snap_hand.Tables.{fixed_of};
 ghost use Rattle.run_effects.specs.RunsOf.{RunsOf};
 ghost use Rattle.solo_host.specs.Outside.{AreLow, AreOfFormat2, AreAllOpen, IsSynced, IsNotSynced, stop_of};
 
 use gate_log::{AppendNo, Log};
-use record_log::history_grows;
-use run_effects::{Stop, append_pieces};
+use run_effects::{Stop, append_pieces, history_grows};
 use snap_core::Core;
 use snap_outside::LogDev;
 use std::alloc::Global;

@@ -13,3 +13,4 @@ mod steps;
 mod turns;
 
 pub use drives::{Driven, drive};
+pub use run_effects::{Stop, write_all};

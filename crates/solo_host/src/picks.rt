@@ -1,20 +1,18 @@
 //! Which of the allowed events comes next.
 ghost use Rattle.std.specs.Prelude.{◌≡◌, ◌+◌, ◌<◌, ℕ, List, [], length, None, Some, IfSome, slice_get};
-ghost use Rattle.core_events.specs.Meant.{event_meant};
+ghost use Rattle.snap_core.specs.core_events.Meant.{event_meant};
 ghost use Rattle.protocol.specs.Events as machine;
 ghost use Rattle.protocol.specs.Runs.{IsQuiet};
 ghost use Rattle.protocol.specs.Schedule.{pick};
 ghost use Rattle.protocol_schedule.specs.Draw.{draw_of, word_of};
 ghost use Rattle.snap_core.specs.Cores.{IsAt, state_at};
-ghost use Rattle.snap_hand.specs.Tables.{fixed_of};
+ghost use Rattle.snap_core.specs.snap_hand.Tables.{fixed_of};
 ghost use Rattle.solo_host.specs.Outside.{IsPicked};
 ghost use Rattle.solo_host.specs.Turns.{IsBehindWords, IsKeptFor};
 
-use core_events::Event;
 use rand_core::utils::NextWord;
 use rand_pcg::Pcg32;
-use ready_list::ReadyList;
-use snap_core::Core;
+use snap_core::{Core, Event, ReadyList};
 
 /// The generator of a seed, which has drawn no word yet.
 pub(crate) fn generator_of(seed: u64) -> Pcg32

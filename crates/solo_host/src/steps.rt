@@ -1,17 +1,16 @@
 //! The step itself.
 ghost use Rattle.std.specs.Prelude.{◌≡◌, List, true, OnOk, OnErr};
-ghost use Rattle.core_events.specs.Meant.{event_meant};
+ghost use Rattle.snap_core.specs.core_events.Meant.{event_meant};
 ghost use Rattle.protocol.specs.Conditions.{IsAllowed};
 ghost use Rattle.protocol.specs.Events as machine;
 ghost use Rattle.snap_core.specs.Cores.{IsAt, IsTakenBy, state_at};
-ghost use Rattle.snap_hand.specs.Steps.{may_want};
-ghost use Rattle.snap_hand.specs.Tables.{fixed_of};
+ghost use Rattle.snap_core.specs.snap_hand.Steps.{may_want};
+ghost use Rattle.snap_core.specs.snap_hand.Tables.{fixed_of};
 
 use aml_slice::Control;
-use core_events::Event;
 use protocol_laws::allowed_or_refused;
 use snap_base::Memory;
-use snap_core::Core;
+use snap_core::{Core, Event};
 use std::alloc::Global;
 
 /// Takes the event, which is allowed. `Memory` comes only of the events that add something, and leaves the core as it was.

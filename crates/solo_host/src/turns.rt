@@ -1,8 +1,8 @@
 //! One turn: an event is picked, what stands before it is done, and it is taken.
 ghost use Rattle.std.specs.Prelude.{None, Some, ◌≡◌, ◌≢◌, ◌<◌, [], ◌∷◌, ◌++◌, length, map, vec_len, vec_capacity, MatchOption};
-ghost use Rattle.core_events.specs.Meant.{event_meant};
+ghost use Rattle.snap_core.specs.core_events.Meant.{event_meant};
 ghost use Rattle.snap_core.specs.Cores.{IsAt, state_at};
-ghost use Rattle.snap_hand.specs.Tables.{fixed_of};
+ghost use Rattle.snap_core.specs.snap_hand.Tables.{fixed_of};
 ghost use Rattle.snap_outside.specs.Causes.{EndsAtFault};
 ghost use Rattle.run_effects.specs.RunsOf.{RunsOf};
 ghost use Rattle.solo_host.specs.Outside.{AreLow, AreOfFormat2, AreAllOpen, outside};
@@ -12,12 +12,10 @@ use crate::befores::before;
 use crate::freshening::freshen;
 use crate::picks::picked;
 use crate::steps::take_step;
-use core_events::Event;
 use gate_log::Log;
 use rand_pcg::Pcg32;
-use ready_list::ReadyList;
 use run_effects::Stop;
-use snap_core::Core;
+use snap_core::{Core, Event, ReadyList};
 use snap_outside::{LogDev, Sink};
 use std::alloc::Global;
 

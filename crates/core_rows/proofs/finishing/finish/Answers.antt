@@ -4,7 +4,7 @@ use Rattle.protocol.specs.Conditions.{conditions}
 use Rattle.protocol.specs.Effects.{after}
 use Rattle.protocol.specs.OnCell.{act_left, is_undone_act}
 use Rattle.protocol.specs.Words.{act_of, holds, is_sealed}
-use Rattle.order_book.specs.Asked.{before_of}
+use Rattle.book_part.specs.order_book.Asked.{before_of}
 use Rattle.book_part.specs.Halves.{Shows}
 use Rattle.core_rows.proofs.Rules.{allowed_where}
 use Rattle.core_rows.proofs.Placing.{put_there}

@@ -14,7 +14,7 @@ use Rattle.book_part.specs.Halves.{Shows}
 use Rattle.core_rows.proofs.Rules.{allowed_where}
 use Rattle.core_rows.proofs.Placing.{is_at, put_there}
 use Rattle.core_rows.proofs.Found.{held, is_there}
-use Rattle.order_book.specs.Asked.{locks_of}
+use Rattle.book_part.specs.order_book.Asked.{locks_of}
 use Rattle.core_rows.proofs.Older.{asked_halves, rivals_met, same_tids}
 use Rattle.core_rows.proofs.placing_acts.ask.Goals as goal
 

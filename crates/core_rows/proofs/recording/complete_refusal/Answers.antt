@@ -1,7 +1,7 @@
 use Rattle.std.proofs.Common.{ap, sym, ◌∙◌}
 use Rattle.protocol.specs.Conditions.{conditions}
 use Rattle.protocol.specs.Words.{holds}
-use Rattle.hybrid_schedule.specs.Schedules.{is_incomplete, is_next_here, is_done_here}
+use Rattle.cell_part.specs.hybrid_schedule.Schedules.{is_incomplete, is_next_here, is_done_here}
 use Rattle.core_rows.proofs.Rules.{refused, three}
 use Rattle.core_rows.proofs.recording.complete_refusal.Goals as goal
 

@@ -6,7 +6,7 @@ use Rattle.protocol.specs.Conditions.{conditions}
 use Rattle.protocol.specs.Effects.{after, cell_at}
 use Rattle.protocol.specs.OnCell.{rolled_back, staying}
 use Rattle.protocol.specs.Words.{holds, is_empty, acts_on}
-use Rattle.actor_cell.specs.Cut.{IsCutFrom}
+use Rattle.cell_part.specs.actor_cell.Cut.{IsCutFrom}
 use Rattle.core_rows.proofs.Rules.{allowed_where}
 use Rattle.core_rows.proofs.Placing.{is_at, put_there}
 use Rattle.core_rows.proofs.rolling.rollback.Goals as goal

@@ -1,6 +1,6 @@
 use Rattle.std.proofs.Common.{is_some, ap, sym, ◌∙◌}
 use Rattle.protocol.specs.Words.{holds, waiting_of, is_clear}
-use Rattle.hybrid_schedule.specs.Schedules.{has_turn}
+use Rattle.cell_part.specs.hybrid_schedule.Schedules.{has_turn}
 use Rattle.protocol.specs.Conditions.{conditions}
 use Rattle.core_rows.proofs.Rules.{refused, three}
 use Rattle.core_rows.proofs.running.run_refusal.Goals as goal

@@ -1,5 +1,5 @@
 use Rattle.std.proofs.Common.{refl}
-use Rattle.aml_check.specs.Checked.{methods_of}
+use Rattle.aml_slice.specs.aml_check.Checked.{methods_of}
 use Rattle.machine_laws.specs.Programs.{finish_of}
 use Rattle.snap_hand.specs.Tables.{text_of}
 use Rattle.crew_parts.proofs.laws.runs_lead.Goals as goal

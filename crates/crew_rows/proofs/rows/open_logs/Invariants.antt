@@ -1,6 +1,6 @@
 use Rattle.std.proofs.Common.{◌≡◌, ◌≤◌, ◌+◌, ◌^◌, false, vec_len, vec_capacity}
 use Rattle.std.specs.List.{AllByRecursion}
-use Rattle.gate_log.specs.declared.limits.TheConstants.{FARTHEST_END}
+use Rattle.crew_host.specs.gate_log.declared.limits.TheConstants.{FARTHEST_END}
 use Rattle.crew_rows.proofs.rows.open_logs.Given as goal
 
 abbrev pub invariant-loop-l : goal.invariant-loop-l

@@ -1,4 +1,4 @@
-use Rattle.snap_work.specs.Works.{work_of}
+use Rattle.snap_core.specs.snap_work.Works.{work_of}
 use Rattle.crew_rows.proofs.texts.joined.Goals as goal
 
 pub returns : goal.returns

@@ -1,6 +1,6 @@
 use Rattle.std.specs.List.{flat_map}
 use Rattle.std.proofs.Common.{map, take}
-use Rattle.book_part.specs.Halves.{Shows}
+use Rattle.listing_facts.specs.book_part.Halves.{Shows}
 use Rattle.protocol.specs.Meant.{tid_number}
 use Rattle.protocol.specs.Parts.{Book}
 use Rattle.ready_listing.specs.Listed.{Adds, of_act}

@@ -1,6 +1,6 @@
 use Rattle.std.specs.List.{flat_map}
 use Rattle.std.proofs.Common.{map, take}
-use Rattle.post_box.specs.Listed.{control_listed}
+use Rattle.listing_facts.specs.post_box.Listed.{control_listed}
 use Rattle.ready_listing.specs.Listed.{Adds, of_control}
 use Rattle.ready_listing.proofs.of_post.list_controls.Given as goal
 

@@ -1,6 +1,6 @@
 use Rattle.std.specs.List.{flat_map}
 use Rattle.std.proofs.Common.{map, take}
-use Rattle.batch_table.specs.Listed.{unnoted_shown}
+use Rattle.listing_facts.specs.batch_table.Listed.{unnoted_shown}
 use Rattle.ready_listing.specs.Listed.{Adds}
 use Rattle.ready_news.specs.InDesk.{of_unnoted}
 use Rattle.ready_news.proofs.in_desk.push_notes.Given as goal

@@ -1,6 +1,6 @@
 use Rattle.std.specs.List.{flat_map}
 use Rattle.std.proofs.Common.{map, take}
-use Rattle.post_box.specs.Listed.{sub_listed}
+use Rattle.listing_facts.specs.post_box.Listed.{sub_listed}
 use Rattle.ready_listing.specs.Listed.{Adds}
 use Rattle.ready_news.specs.InPost.{of_arrival}
 use Rattle.ready_news.proofs.in_post.push_arrivals.Given as goal

@@ -1,6 +1,6 @@
 use Rattle.std.proofs.Common.{take}
 use Rattle.std.specs.List.{AllByRecursion}
-use Rattle.txn_records.specs.Records.{IsState}
+use Rattle.record_log.specs.txn_records.Records.{IsState}
 use Rattle.run_effects.proofs.drives.each_fits.Given as goal
 
 -- those so far may stand in records

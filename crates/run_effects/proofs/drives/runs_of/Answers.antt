@@ -1,10 +1,10 @@
 use Rattle.std.proofs.Common.{List, subst}
 use Rattle.std.specs.List.{AllByRecursion}
-use Rattle.aml_check.specs.Checked.{methods_of}
+use Rattle.aml_slice.specs.aml_check.Checked.{methods_of}
 use Rattle.machine_laws.specs.Programs.{finish_of}
 use Rattle.snap_base.specs.declared.transactions.State.{State}
 use Rattle.snap_hand.specs.Tables.{fixed_of, text_of}
-use Rattle.txn_records.specs.Records.{IsState}
+use Rattle.record_log.specs.txn_records.Records.{IsState}
 use Rattle.run_effects.proofs.drives.runs_of.Goals as goal
 
 pub returns : goal.returns

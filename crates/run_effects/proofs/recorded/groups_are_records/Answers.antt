@@ -1,4 +1,4 @@
-use Rattle.aml_check.specs.Checked.{methods_of}
+use Rattle.aml_slice.specs.aml_check.Checked.{methods_of}
 use Rattle.machine_laws.specs.Programs.{finish_of, with_code}
 use Rattle.run_effects.proofs.ProgramsLeave.{program_leaves}
 use Rattle.run_effects.proofs.RecordsKept.{groups_hold}

@@ -2,7 +2,7 @@ use Rattle.std.proofs.Common.{◌≤◌, ◌*◌, length, map, sym, subst, arith
 use Rattle.std.proofs.lemmas.List.{length-map}
 use Rattle.core_events.specs.Meant.{event_meant}
 use Rattle.protocol.specs.Runs.{IsRun}
-use Rattle.snap_hand.specs.Tables.{fixed_of, text_of}
+use Rattle.snap_core.specs.snap_hand.Tables.{fixed_of, text_of}
 use Rattle.run_printing.proofs.counts.a_run_is_short.Goals as goal
 
 pub returns : goal.returns

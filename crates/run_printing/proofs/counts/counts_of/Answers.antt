@@ -7,7 +7,7 @@ use Rattle.run_effects.specs.Replies.{commits_of, aborts_of}
 use Rattle.run_printing.specs.Counted.{settled_by}
 use Rattle.run_printing.proofs.Counted.{committed_total, aborted_total, settles_total, total_more}
 use Rattle.snap_core.specs.Cores.{state_at}
-use Rattle.snap_hand.specs.Tables.{fixed_of}
+use Rattle.snap_core.specs.snap_hand.Tables.{fixed_of}
 use Rattle.run_printing.proofs.counts.counts_of.Goals as goal
 
 pub loop-event-preserved : goal.loop-event-preserved

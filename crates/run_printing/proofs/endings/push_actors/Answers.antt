@@ -4,7 +4,7 @@ use Rattle.std.proofs.Math.Seq.{take-length}
 use Rattle.aml_slice.specs.Controls.{Rest}
 use Rattle.protocol.specs.Parts.{Cell}
 use Rattle.snap_core.specs.Cores.{state_at}
-use Rattle.snap_hand.specs.Tables.{AreTables, fixed_of}
+use Rattle.snap_core.specs.snap_hand.Tables.{AreTables, fixed_of}
 use Rattle.snap_report.specs.Lines.{actor_text, actors_text}
 use Rattle.run_printing.proofs.ActorLines.{actors_more}
 use Rattle.run_printing.proofs.endings.push_actors.Goals as goal

@@ -9,7 +9,7 @@ use Rattle.run_printing.proofs.Sums.{abs_add, total_more}
 use Rattle.run_printing.proofs.totals.total_of.Goals as goal
 use Rattle.snap_base.specs.declared.transactions.State.{State}
 use Rattle.snap_core.specs.Cores.{state_at}
-use Rattle.snap_hand.specs.Tables.{AreTables, fixed_of}
+use Rattle.snap_core.specs.snap_hand.Tables.{AreTables, fixed_of}
 
 pub loop-number-preserved : goal.loop-number-preserved
 loop-number-preserved c =

@@ -1,12 +1,12 @@
-use Rattle.aml_check.specs.Checked.{methods_of}
+use Rattle.aml_slice.specs.aml_check.Checked.{methods_of}
 use Rattle.machine_laws.specs.Meant.{CommittedAsMeant, VerdictsAsMeant}
-use Rattle.protocol_records.specs.AsTold.{ToldStands}
-use Rattle.protocol_theorems.specs.Left.{RunsEnd}
-use Rattle.protocol_theorems.specs.Order.{OrderHolds}
-use Rattle.protocol_theorems.specs.Quiet.{AnsweredWhenQuiet}
-use Rattle.protocol_theorems.specs.Sets.{NumbersStand}
-use Rattle.protocol_verdicts.specs.Evidence.{VerdictsStand}
-use Rattle.protocol_verdicts.specs.EvidenceSerial.{VerdictsTell}
+use Rattle.machine_laws.specs.protocol_records.AsTold.{ToldStands}
+use Rattle.machine_laws.specs.protocol_theorems.Left.{RunsEnd}
+use Rattle.machine_laws.specs.protocol_theorems.Order.{OrderHolds}
+use Rattle.machine_laws.specs.protocol_theorems.Quiet.{AnsweredWhenQuiet}
+use Rattle.machine_laws.specs.protocol_theorems.Sets.{NumbersStand}
+use Rattle.machine_laws.specs.protocol_verdicts.Evidence.{VerdictsStand}
+use Rattle.machine_laws.specs.protocol_verdicts.EvidenceSerial.{VerdictsTell}
 use Rattle.run_recovery.proofs.RunsRecovered.{after_run, of_run}
 use Rattle.run_recovery.proofs.laws.runs_are_as_meant.Goals as goal
 

@@ -1,4 +1,4 @@
-use Rattle.aml_check.specs.Checked.{methods_of}
+use Rattle.aml_slice.specs.aml_check.Checked.{methods_of}
 use Rattle.run_recovery.proofs.RunsRecovered.{recovers}
 use Rattle.run_recovery.proofs.laws.runs_are_recovered.Goals as goal
 

@@ -1,6 +1,6 @@
 use Rattle.std.proofs.Common.{arith, map}
 use Rattle.snap_base.proofs.Lists.{all_step}
-use Rattle.aml_check.specs.Checked.{methods_of}
+use Rattle.aml_slice.specs.aml_check.Checked.{methods_of}
 use Rattle.machine_recovery.proofs.Programs.{all_of_them}
 use Rattle.run_recovery.proofs.SeveralRuns.{AreRecovered, go_on_behind}
 use Rattle.run_recovery.proofs.laws.runs_go_on_behind_each_other.Goals as goal

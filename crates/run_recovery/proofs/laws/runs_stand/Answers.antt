@@ -1,14 +1,14 @@
 use Rattle.std.proofs.Common.{List, refl, sym, subst}
-use Rattle.aml_check.specs.Checked.{methods_of}
-use Rattle.aml_tree.specs.Tree.{CheckedMethod}
+use Rattle.aml_slice.specs.aml_check.Checked.{methods_of}
+use Rattle.aml_slice.specs.aml_tree.Tree.{CheckedMethod}
 use Rattle.machine_laws.specs.Meant.{CommittedAsMeant, VerdictsAsMeant}
-use Rattle.protocol_records.specs.AsTold.{ToldStands}
-use Rattle.protocol_theorems.specs.Left.{RunsEnd}
-use Rattle.protocol_theorems.specs.Order.{OrderHolds}
-use Rattle.protocol_theorems.specs.Quiet.{AnsweredWhenQuiet}
-use Rattle.protocol_theorems.specs.Sets.{NumbersStand}
-use Rattle.protocol_verdicts.specs.Evidence.{VerdictsStand}
-use Rattle.protocol_verdicts.specs.EvidenceSerial.{VerdictsTell}
+use Rattle.machine_laws.specs.protocol_records.AsTold.{ToldStands}
+use Rattle.machine_laws.specs.protocol_theorems.Left.{RunsEnd}
+use Rattle.machine_laws.specs.protocol_theorems.Order.{OrderHolds}
+use Rattle.machine_laws.specs.protocol_theorems.Quiet.{AnsweredWhenQuiet}
+use Rattle.machine_laws.specs.protocol_theorems.Sets.{NumbersStand}
+use Rattle.machine_laws.specs.protocol_verdicts.Evidence.{VerdictsStand}
+use Rattle.machine_laws.specs.protocol_verdicts.EvidenceSerial.{VerdictsTell}
 use Rattle.run_recovery.specs.Crashes.{Recovers}
 use Rattle.run_recovery.specs.EachRun.{AfterEachRun, OfEachRun}
 use Rattle.run_recovery.specs.OneRun.{the_run}

@@ -1,11 +1,11 @@
 use Rattle.std.proofs.Common.{◌≡◌, ℕ, inl, List, [], map, refl, sym, subst}
 use Rattle.std.proofs.KnownBytes.{Appends-nil}
-use Rattle.aml_slice.specs.Controls.{Rest}
-use Rattle.core_events.specs.Meant.{event_meant}
+use Rattle.snap_core.specs.aml_slice.Controls.{Rest}
+use Rattle.snap_core.specs.core_events.Meant.{event_meant}
 use Rattle.protocol.specs.Events as machine
 use Rattle.protocol.specs.Fixed.{Fixed}
-use Rattle.run_effects.specs.declared.stops.Stop.{Stop}
-use Rattle.run_effects.specs.declared.stops.Stop.TheVariants as stop
+use Rattle.solo_host.specs.run_effects.declared.stops.Stop.{Stop}
+use Rattle.solo_host.specs.run_effects.declared.stops.Stop.TheVariants as stop
 use Rattle.run_work.proofs.endings.end_hosted.Goals as goal
 use Rattle.run_work.specs.Printings.{printing_of}
 use Rattle.run_work.specs.Runs.{Printing, unsure_by}

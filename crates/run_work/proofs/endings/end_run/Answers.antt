@@ -1,5 +1,5 @@
 use Rattle.std.proofs.Common.{List, subst}
-use Rattle.core_events.specs.declared.events.Event.{Event}
+use Rattle.snap_core.specs.core_events.declared.events.Event.{Event}
 use Rattle.run_work.proofs.AtFault.{traced_stood}
 use Rattle.run_work.proofs.endings.end_run.Goals as goal
 use Rattle.run_work.specs.Printings.{printing_of}

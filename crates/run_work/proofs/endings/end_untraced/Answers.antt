@@ -1,6 +1,6 @@
 use Rattle.std.proofs.Common.{◌≡◌, List, Result, refl, sym, subst}
-use Rattle.core_events.specs.declared.events.Event.{Event}
-use Rattle.log_opening.specs.declared.refusals.LogsNo.{LogsNo}
+use Rattle.snap_core.specs.core_events.declared.events.Event.{Event}
+use Rattle.run_opening.specs.log_opening.declared.refusals.LogsNo.{LogsNo}
 use Rattle.run_recovery.specs.Runs.{meant}
 use Rattle.run_work.proofs.AtFault.{silent_so}
 use Rattle.run_work.proofs.Ending.{StopsAtFault}

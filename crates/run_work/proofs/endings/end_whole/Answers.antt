@@ -1,7 +1,7 @@
 use Rattle.std.proofs.Common.{◌≡◌, Option, Some, map, refl, sym, subst}
 use Rattle.std.proofs.KnownBytes.{Keeps-refl}
-use Rattle.aml_slice.specs.Controls.{Rest}
-use Rattle.core_events.specs.Meant.{event_meant}
+use Rattle.snap_core.specs.aml_slice.Controls.{Rest}
+use Rattle.snap_core.specs.core_events.Meant.{event_meant}
 use Rattle.protocol.specs.Fixed.{Fixed}
 use Rattle.run_work.proofs.endings.end_whole.Goals as goal
 use Rattle.run_work.specs.Hosts.{IsCoreOf}
@@ -10,8 +10,8 @@ use Rattle.run_work.specs.Untraced.{IsEnding}
 use Rattle.run_work.specs.Writings.{Writing, writing_of}
 use Rattle.snap_core.specs.Cores.{CoreState}
 use Rattle.snap_report.specs.declared.statuses.Status.TheVariants as status
-use Rattle.run_effects.specs.declared.stops.Stop.{Stop}
-use Rattle.run_effects.specs.declared.stops.Stop.TheVariants as stop
+use Rattle.solo_host.specs.run_effects.declared.stops.Stop.{Stop}
+use Rattle.solo_host.specs.run_effects.declared.stops.Stop.TheVariants as stop
 
 pub returns-in-Some-clause-ending : goal.returns-in-Some-clause-ending
 returns-in-Some-clause-ending g c = λ m is.

@@ -5,8 +5,8 @@ use Rattle.run_recovery.specs.Schedules.{free}
 use Rattle.run_work.proofs.CrewHosting.{crew_hosted, crew_whole, stops}
 use Rattle.run_work.proofs.hosts.crew_on_logs.Goals as goal
 use Rattle.run_work.specs.Writings.{Writing, writing_of}
-use Rattle.snap_hand.specs.Tables.{fixed_of}
-use Rattle.snap_hand.specs.declared.tables.Tables.{Tables}
+use Rattle.snap_core.specs.snap_hand.Tables.{fixed_of}
+use Rattle.snap_core.specs.snap_hand.declared.tables.Tables.{Tables}
 use Rattle.snap_work.specs.Works.{work_of}
 
 pub open-requires : goal.open-requires

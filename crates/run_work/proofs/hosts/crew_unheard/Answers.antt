@@ -1,5 +1,5 @@
 use Rattle.std.proofs.Common.{None, arith}
-use Rattle.log_opening.specs.Devices.{devices_of}
+use Rattle.run_opening.specs.log_opening.Devices.{devices_of}
 use Rattle.run_recovery.specs.Schedules.{free}
 use Rattle.run_work.proofs.hosts.crew_unheard.Goals as goal
 use Rattle.run_work.specs.Writings.{Writing}

@@ -1,6 +1,6 @@
 use Rattle.std.proofs.Common.{◌≡◌, ◌≤◌, ◌∙◌, ap, arith, false, refl}
-use Rattle.gate_log.specs.State.{LogState}
-use Rattle.log_opening.specs.Devices.{devices_of}
+use Rattle.run_opening.specs.gate_log.State.{LogState}
+use Rattle.run_opening.specs.log_opening.Devices.{devices_of}
 use Rattle.run_recovery.specs.Schedules.{free}
 use Rattle.run_work.proofs.OnDevices.{hosted_on, unbegun}
 use Rattle.run_work.proofs.RunDevices.{each_log, mapped_behind}

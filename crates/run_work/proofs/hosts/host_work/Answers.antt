@@ -1,5 +1,5 @@
 use Rattle.std.proofs.Common.{None, arith, sym, subst}
-use Rattle.log_opening.specs.Devices.{devices_of}
+use Rattle.run_opening.specs.log_opening.Devices.{devices_of}
 use Rattle.run_recovery.specs.Schedules.{seeded}
 use Rattle.run_work.proofs.hosts.host_work.Goals as goal
 use Rattle.run_work.specs.Hosts.{HasHosted}

@@ -1,5 +1,5 @@
 use Rattle.std.proofs.Common.{Result, subst}
-use Rattle.log_opening.specs.declared.refusals.LogsNo.{LogsNo}
+use Rattle.run_opening.specs.log_opening.declared.refusals.LogsNo.{LogsNo}
 use Rattle.run_work.proofs.Hosting.{unheard_host}
 use Rattle.run_work.proofs.hosts.summed.Goals as goal
 use Rattle.run_work.specs.Hosts.{HasHosted}

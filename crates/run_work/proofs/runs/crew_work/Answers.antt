@@ -1,5 +1,5 @@
 use Rattle.std.proofs.Common.{refl}
-use Rattle.log_opening.specs.Devices.{devices_of}
+use Rattle.run_opening.specs.log_opening.Devices.{devices_of}
 use Rattle.run_recovery.specs.Runs.{meant}
 use Rattle.run_recovery.specs.Schedules.{free}
 use Rattle.run_work.proofs.Called.{answer_of, once_of, opens_of}

@@ -1,6 +1,6 @@
 use Rattle.std.proofs.Common.{refl}
 use Rattle.machine_laws.specs.Programs.{finish_of}
-use Rattle.aml_check.specs.Checked.{methods_of}
+use Rattle.aml_slice.specs.aml_check.Checked.{methods_of}
 use Rattle.snap_hand.specs.Tables.{text_of}
 use Rattle.snap_core.proofs.cores.runs_lead.Goals as goal
 

@@ -1,5 +1,5 @@
 use Rattle.std.proofs.Common.{◌≡◌, ◌%◌, Some, [], ◌∷◌, slice_get, refl, sym, ap, subst, ◌∙◌}
-use Rattle.log_set.specs.Logs.{LogList}
+use Rattle.core_rows.specs.log_set.Logs.{LogList}
 use Rattle.protocol.specs.Effects.{after, added, log_at}
 use Rattle.protocol.specs.Events.{Commit}
 use Rattle.protocol.specs.Records.{BatchDone}

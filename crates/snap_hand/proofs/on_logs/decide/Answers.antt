@@ -1,6 +1,6 @@
 use Rattle.std.proofs.Common.{◌≡◌, ◌%◌, Some, slice_get, refl, sym, ap, subst, ◌∙◌}
 use Rattle.core_rows.specs.Showing.{ShowsBook, ShowsDesk, ShowsLogAt}
-use Rattle.log_set.specs.Logs.{LogList}
+use Rattle.core_rows.specs.log_set.Logs.{LogList}
 use Rattle.protocol.specs.Effects.{after, added, act_commit, log_at}
 use Rattle.protocol.specs.Events.{Decide}
 use Rattle.protocol.specs.Fixed.{base}

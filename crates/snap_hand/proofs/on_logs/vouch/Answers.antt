@@ -1,5 +1,5 @@
 use Rattle.std.proofs.Common.{◌≡◌, Some, slice_get, refl, sym, subst}
-use Rattle.log_set.specs.Logs.{LogList}
+use Rattle.core_rows.specs.log_set.Logs.{LogList}
 use Rattle.protocol.specs.Effects.{after}
 use Rattle.protocol.specs.Events.{Vouch}
 use Rattle.snap_hand.specs.Tables.{fixed_of}

@@ -1,5 +1,5 @@
 use Rattle.std.proofs.Common.{◌≡◌, Some, map, option_map, replicate}
-use Rattle.log_set.specs.Logs.{no_records}
+use Rattle.core_rows.specs.log_set.Logs.{no_records}
 use Rattle.snap_hand.proofs.opening.new_logs.Given as goal
 
 abbrev pub invariant-loop-made : goal.invariant-loop-made

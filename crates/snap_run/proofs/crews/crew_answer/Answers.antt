@@ -4,7 +4,7 @@ use Rattle.std.specs.Prelude.{string_bytes}
 use Rattle.command_words.specs.Commands.{IsCommand}
 use Rattle.command_words.specs.declared.commands.Command.{Command}
 use Rattle.command_words.specs.declared.commands.Command.TheVariants.{Run, Bench}
-use Rattle.run_recovery.specs.Schedules.{Schedule}
+use Rattle.run_work.specs.run_recovery.Schedules.{Schedule}
 use Rattle.snap_run.proofs.Outcomes.{by_crew, bench_outcome, run_not_bench, few_workers, same_measure, some_asked}
 use Rattle.snap_run.proofs.crews.crew_answer.Goals as goal
 use Rattle.snap_outside.proofs.AtFault.{surely}

@@ -1,6 +1,6 @@
 use Rattle.std.proofs.Common.{refl, inl, inr, subst}
 use Rattle.std.proofs.KnownBytes.{Keeps-refl}
-use Rattle.run_opening.specs.Opens.{MayOpen}
+use Rattle.run_work.specs.run_opening.Opens.{MayOpen}
 use Rattle.snap_run.proofs.crews.crew_generated.Goals as goal
 use Rattle.snap_work.specs.Works.{Work, work_of}
 

@@ -1,6 +1,6 @@
 use Rattle.std.proofs.Common.{refl, sym, subst}
 use Rattle.std.proofs.KnownBytes.{Keeps-refl}
-use Rattle.run_recovery.specs.Schedules.{Schedule}
+use Rattle.run_work.specs.run_recovery.Schedules.{Schedule}
 use Rattle.run_work.specs.Runs.{IsWorkAnswer}
 use Rattle.snap_run.proofs.Outcomes.{by_crew, input_not_of_logs, input_outcome, run_outcome, run_not_of_logs}
 use Rattle.snap_run.proofs.crews.crew_input.Goals as goal

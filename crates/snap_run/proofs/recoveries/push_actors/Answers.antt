@@ -2,7 +2,7 @@ use Rattle.std.proofs.Common.{◌++◌, take, get_or, [], arith, ap, sym, ◌∙
 use Rattle.std.specs.Prelude.{string_bytes}
 use Rattle.std.proofs.lemmas.List.{take_more, length-take}
 use Rattle.snap_report.specs.Lines.{actor_text, actors_text}
-use Rattle.run_printing.proofs.ActorLines.{actors_text-push}
+use Rattle.run_work.proofs.run_printing.ActorLines.{actors_text-push}
 use Rattle.snap_run.proofs.recoveries.push_actors.Goals as goal
 
 pub loop-number-preserved : goal.loop-number-preserved

@@ -1,5 +1,5 @@
 use Rattle.std.proofs.Common.{◌<◌, arith}
-use Rattle.snap_hand.specs.Tables.{fixed_of}
+use Rattle.snap_core.specs.snap_hand.Tables.{fixed_of}
 use Rattle.solo_host.proofs.Turning.{before_a_sync, sync_exists}
 use Rattle.solo_host.proofs.befores.before.Goals as goal
 

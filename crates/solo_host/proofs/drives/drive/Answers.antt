@@ -1,10 +1,10 @@
 use Rattle.std.proofs.Common.{List, length, map, refl, sym, ap, subst, ◌∙◌}
-use Rattle.core_events.specs.declared.events.Event as code
-use Rattle.core_events.specs.Meant.{event_meant}
+use Rattle.snap_core.specs.core_events.declared.events.Event as code
+use Rattle.snap_core.specs.core_events.Meant.{event_meant}
 use Rattle.protocol.specs.Runs.{IsRun}
 use Rattle.snap_core.specs.Cores.{IsAt}
-use Rattle.snap_hand.specs.Tables.{fixed_of}
-use Rattle.snap_hand.specs.declared.tables.Tables.{Tables}
+use Rattle.snap_core.specs.snap_hand.Tables.{fixed_of}
+use Rattle.snap_core.specs.snap_hand.declared.tables.Tables.{Tables}
 use Rattle.run_effects.specs.RunsOf.{RunsOf}
 use Rattle.solo_host.specs.Outside.{outside}
 use Rattle.solo_host.specs.Turns.{IsBehindWords, IsOneBehind}

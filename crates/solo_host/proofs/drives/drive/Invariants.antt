@@ -1,8 +1,8 @@
 use Rattle.std.proofs.Common.{◌≡◌, ◌-◌, ◌*◌, length, map}
-use Rattle.core_events.specs.Meant.{event_meant}
-use Rattle.protocol_theorems.specs.Left.{most_events}
+use Rattle.snap_core.specs.core_events.Meant.{event_meant}
+use Rattle.snap_core.specs.protocol_theorems.Left.{most_events}
 use Rattle.snap_core.specs.Cores.{IsAt}
-use Rattle.snap_hand.specs.Tables.{fixed_of}
+use Rattle.snap_core.specs.snap_hand.Tables.{fixed_of}
 use Rattle.snap_outside.specs.Causes.{EndsAtFault}
 use Rattle.solo_host.specs.Outside.{outside}
 use Rattle.solo_host.specs.Turns.{IsBehindWords, IsOneBehind}

@@ -1,5 +1,5 @@
 use Rattle.std.proofs.Common.{map, sym}
-use Rattle.core_events.specs.Meant.{event_meant}
+use Rattle.snap_core.specs.core_events.Meant.{event_meant}
 use Rattle.solo_host.proofs.KeptList.{last_read, listed, renewed}
 use Rattle.solo_host.proofs.freshening.freshen.Goals as goal
 

@@ -1,4 +1,4 @@
-use Rattle.core_events.specs.Meant.{event_meant}
+use Rattle.snap_core.specs.core_events.Meant.{event_meant}
 use Rattle.solo_host.proofs.KeptList.{extends, renews}
 use Rattle.solo_host.proofs.freshening.go_on.Goals as goal
 

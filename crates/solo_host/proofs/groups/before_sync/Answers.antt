@@ -1,5 +1,5 @@
 use Rattle.std.proofs.Common.{◌<◌, length, set, subst, sym, ◌∙◌, arith}
-use Rattle.snap_hand.specs.Tables.{fixed_of}
+use Rattle.snap_core.specs.snap_hand.Tables.{fixed_of}
 use Rattle.solo_host.proofs.Preparing.{may_append, of_format, has_synced, has_not_synced}
 use Rattle.solo_host.specs.Outside.{IsNotSynced}
 use Rattle.run_effects.specs.declared.stops.Stop.{Stop}

@@ -1,8 +1,8 @@
 use Rattle.std.proofs.Common.{List, length, map, refl, sym, subst}
 use Rattle.std.proofs.KnownBytes.{Appends-nil}
-use Rattle.core_events.specs.declared.events.Event as code
-use Rattle.core_events.specs.Meant.{event_meant}
-use Rattle.snap_hand.specs.Tables.{fixed_of}
+use Rattle.snap_core.specs.core_events.declared.events.Event as code
+use Rattle.snap_core.specs.core_events.Meant.{event_meant}
+use Rattle.snap_core.specs.snap_hand.Tables.{fixed_of}
 use Rattle.solo_host.specs.Outside.{outside}
 use Rattle.solo_host.specs.Turns.{HasStopped}
 use Rattle.run_effects.specs.declared.stops.Stop.TheVariants as stop

@@ -1,6 +1,6 @@
 use Rattle.std.proofs.Common.{◌<◌, ◌∙◌, Err, ap, length, subst, sym, arith}
 use Rattle.protocol.specs.Events.{Sync, log}
-use Rattle.run_effects.specs.RunsOf.{RunsOf}
+use Rattle.crew_parts.specs.run_effects.RunsOf.{RunsOf}
 use Rattle.snap_hand.specs.Hands.{Parts, Fits, Has}
 use Rattle.snap_hand.specs.Tables.{fixed_of}
 use Rattle.crew_grip.specs.Acted.{IsOuter}

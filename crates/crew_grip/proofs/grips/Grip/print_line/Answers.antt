@@ -2,7 +2,7 @@ use Rattle.std.proofs.Common.{◌≡◌, ◌∙◌, ap, refl, subst, sym}
 use Rattle.aml_slice.specs.Controls.{Rest}
 use Rattle.protocol.specs.Events.{book, desk}
 use Rattle.protocol.specs.Parts.{Machine}
-use Rattle.run_effects.specs.Lines.{line_in, verdict_line}
+use Rattle.crew_parts.specs.run_effects.Lines.{line_in, verdict_line}
 use Rattle.crew_grip.specs.Grips.{GripState}
 use Rattle.snap_hand.specs.Hands.{Fits, Has}
 use Rattle.snap_hand.specs.Tables.{fixed_of}

@@ -1,6 +1,6 @@
 use Rattle.std.proofs.Common.{Option, Some, List, option_map, slice_set, map, ap, ◌∙◌}
 use Rattle.std.proofs.lemmas.List.{map-set}
-use Rattle.log_set.specs.Logs.{LogList}
+use Rattle.core_rows.specs.log_set.Logs.{LogList}
 use Rattle.snap_hand.specs.Hands.{Parts}
 use Rattle.snap_hand.proofs.hand.Hand.put_log.Goals as goal
 

@@ -2,7 +2,7 @@ use Rattle.std.proofs.Common.{◌<◌, Box, Global, Option, None, List, option_m
 use Rattle.std.specs.Option.{option_flatten}
 use Rattle.std.proofs.lemmas.List.{map-set}
 use Rattle.aml_slice.specs.Controls.{Rest}
-use Rattle.cell_part.specs.Room.{Roomed}
+use Rattle.core_rows.specs.cell_part.Room.{Roomed}
 use Rattle.protocol.specs.Parts.{Cell}
 use Rattle.snap_hand.specs.Hands.{Parts}
 use Rattle.snap_hand.specs.Shown.{TheCell}

@@ -1,6 +1,6 @@
 use Rattle.std.proofs.Common.{Option, Some, None, List, option_map, slice_get, slice_set, map, sym, ap, ◌∙◌}
 use Rattle.std.proofs.lemmas.List.{map-set}
-use Rattle.log_set.specs.Logs.{LogList}
+use Rattle.core_rows.specs.log_set.Logs.{LogList}
 use Rattle.std.proofs.lemmas.Option.{slice_get-map}
 use Rattle.snap_hand.specs.Hands.{Parts}
 use Rattle.snap_hand.proofs.InLists.{there_is}

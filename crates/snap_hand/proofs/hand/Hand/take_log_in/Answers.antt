@@ -1,7 +1,7 @@
 use Rattle.std.proofs.Common.{◌<◌, Box, Global, Option, None, List, option_map, length, slice_get, slice_set, map, sym, ap, subst, ◌∙◌}
 use Rattle.std.specs.Option.{option_flatten}
 use Rattle.std.proofs.lemmas.List.{map-set}
-use Rattle.log_set.specs.Logs.{LogList, PendingState}
+use Rattle.core_rows.specs.log_set.Logs.{LogList, PendingState}
 use Rattle.snap_hand.specs.Hands.{Parts}
 use Rattle.snap_hand.specs.Shown.{TheLog}
 use Rattle.snap_hand.proofs.Numbered.{taken_read}

@@ -1,0 +1,1 @@
+pub use Rattle.aml_tokens.proofs as aml_tokens
