@@ -4,11 +4,12 @@ use Rattle.std.specs.Prelude.{filter}
 use Rattle.std.specs.List.{AllByRecursion, find}
 use Rattle.std.proofs.lemmas.Bool.{cond_both, or_cases, or_right, false_from_ne_true, false≢true, leb-true, leb-false, le-leb, lt-leb, eqb-true, ne_eqb}
 use Rattle.protocol.specs.CellParts.{Store, with_undone}
+use Rattle.protocol.specs.Cutting.{Ascends, AreAbortedFrom, HaveRunInOrder}
 use Rattle.protocol.specs.OnCell.{is_entry_among, is_cut, staying, going, state_from}
 use Rattle.protocol.specs.Parts.{Cascade, Who, OfBatch, OfAct, Entry, BatchEntry, ActEntry, Image}
 use Rattle.protocol.specs.Words.{is_empty, is_among, is_aborted, is_batch_entry, ahead, is_who, who_of, batches_on, acts_on}
 use Rattle.actor_cell.specs.Calls.{is_who_from, undone_from}
-use Rattle.actor_cell.specs.Cut.{Ascends, AreAbortedFrom, NoneIsAborted, HaveRunInOrder, IsCutFrom}
+use Rattle.actor_cell.specs.Cut.{NoneIsAborted, IsCutFrom}
 
 -- ---- two tests that agree on a list find and leave the same
 

@@ -1,27 +1,14 @@
 -- Where a rollback cuts a schedule, and which images there may be.
-use Rattle.std.specs.Prelude.{◌≡◌, ℕ, ◌<◌, nat_le, Bool, true, false, List, [], ◌∷◌, ⊤}
+use Rattle.std.specs.Prelude.{◌≡◌, ℕ, Bool, true, false, List, []}
 use Rattle.std.specs.List.{AllByRecursion}
+use Rattle.protocol.specs.Cutting.{Ascends, AreAbortedFrom}
 use Rattle.protocol.specs.OnCell.{is_entry_among, staying, going}
 use Rattle.protocol.specs.Parts.{Cascade, Entry, Image}
-use Rattle.protocol.specs.Words.{is_empty, is_aborted, is_complete_batch, batches_on, acts_on}
-
--- each is below all that follow
-abbrev pub Ascends : List ℕ → Type 0
-Ascends [] = ⊤
-Ascends (k ∷ ks) = AllByRecursion (λ j. k < j) ks × Ascends ks
-
--- of the batches here those from k on are aborted, and no others
-abbrev pub AreAbortedFrom : ℕ → List Cascade → List Entry → Type 0
-AreAbortedFrom k cascades entries = AllByRecursion (λ j. is_aborted j cascades ≡ nat_le k j) (batches_on entries)
+use Rattle.protocol.specs.Words.{is_empty, is_aborted, batches_on, acts_on}
 
 -- of the batches here none is aborted
 abbrev pub NoneIsAborted : List Cascade → List Entry → Type 0
 NoneIsAborted cascades entries = AllByRecursion (λ j. is_aborted j cascades ≡ false) (batches_on entries)
-
--- behind an entry that is no complete batch, nothing has an image: there nobody ran but who only reads
-abbrev pub HaveRunInOrder : List Entry → List Image → Type 0
-HaveRunInOrder [] images = ⊤
-HaveRunInOrder (e ∷ es) images = (is_complete_batch e ≡ false → AllByRecursion (λ i. is_entry_among i.who es ≡ false) images) × HaveRunInOrder es images
 
 -- A schedule is cut from batch k on, and ACTs are meant too or not.
 pub record IsCutFrom (k : ℕ) (acts : Bool) (cascades : List Cascade) (entries : List Entry) (images : List Image) : Type 0 where

@@ -3,11 +3,12 @@
 ghost use Rattle.std.specs.Prelude.{◌≡◌, ℕ, false, true, Bool, List, Some};
 ghost use Rattle.std.specs.List.{AllByRecursion};
 ghost use Rattle.protocol.specs.CellParts.{Store, with_undone, parted};
+ghost use Rattle.protocol.specs.Cutting.{Ascends, AreAbortedFrom, HaveRunInOrder};
 ghost use Rattle.protocol.specs.OnCell.{is_entry_among, staying, going};
 ghost use Rattle.protocol.specs.Parts.{Act, Cascade, Entry, Image};
 ghost use Rattle.protocol.specs.Words.{is_empty, is_among, is_batch_entry, ahead, batches_on, acts_on};
 ghost use Rattle.actor_cell.specs.Calls.{undone_from, store_left_by};
-ghost use Rattle.actor_cell.specs.Cut.{Ascends, AreAbortedFrom, NoneIsAborted, HaveRunInOrder, IsCutFrom};
+ghost use Rattle.actor_cell.specs.Cut.{NoneIsAborted, IsCutFrom};
 
 /// Where a schedule is cut from batch `k` on, `undo_from` undoes what the entries that go did.
 pub fn undoing_is_rollback()

@@ -4,6 +4,7 @@ use Rattle.std.specs.Prelude.{find, is_some}
 use Rattle.std.specs.List.{All, AllByRecursion}
 use Rattle.std.specs.Int.{w64}
 use Rattle.std.proofs.lemmas.Bool.{eqb-true, and_parts}
+use Rattle.protocol.specs.Cutting.{HaveRunInOrder}
 use Rattle.snap_base.specs.declared.ids.ActorId.{ActorId}
 use Rattle.snap_base.specs.declared.ids.Bid.{Bid}
 use Rattle.snap_base.specs.declared.ids.Tid.{Tid}
@@ -30,7 +31,6 @@ use Rattle.protocol_laws.specs.Ranges.{NumbersInRange, CellInRange, IsDrawnBid}
 use Rattle.protocol_laws.proofs.first.Candidates.{on_schedule}
 use Rattle.protocol_theorems.specs.Sizes.{SizesHold, AllFindRoom}
 use Rattle.batch_table.specs.Laws.{PlannedMayJoin}
-use Rattle.actor_cell.specs.Cut.{HaveRunInOrder}
 use Rattle.token_ring.specs.Asked.{MayPass}
 use Rattle.txn_records.specs.Records.{actor_numbers, tid_numbers, IsInfo, IsDone, Ascend}
 use Rattle.core_facts.specs.RowsMay.{IsActRecord, RowsMay}
@@ -224,11 +224,11 @@ rows_may w finish s h nothing g =
       aborts_above = λ k ok. (g.room (Abort k) ok).0;
       runs_image = λ u a ok n. omega (arith, g.limits.room u a ok n, t.few_batches, t.few_acts);
       rolls_back = λ a x e. let c = g.actors a in record {
-        ascends = Cutting.ascends (batches_on (cell_at s a).entries) c.ascends;
+        ascends = c.ascends;
         aborted = c.cut x e;
         ahead = refl;
         entered = c.entered;
-        waited = nothing s.book.cascades (cell_at s a).entries (cell_at s a).images (Cutting.run_in_order (cell_at s a).entries (cell_at s a).images c.in_order);
+        waited = nothing s.book.cascades (cell_at s a).entries (cell_at s a).images c.in_order;
       };
       cuts = λ a x e. (g.actors a).cut x e;
       few_entries = λ a. few_entries w s a t (g.limits.batches a) (g.limits.acts a);

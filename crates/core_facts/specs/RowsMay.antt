@@ -2,6 +2,7 @@
 use Rattle.std.specs.Prelude.{◌≡◌, ℕ, ℤ, ◌+◌, ◌-◌, ◌%◌, ◌^◌, ◌<◌, ◌≤◌, false, Some, None, is_some, List, ◌∷◌, ◌++◌, length, map, slice_get, FitsSigned}
 use Rattle.std.specs.List.{All, AllByRecursion}
 use Rattle.std.specs.Int.{w64}
+use Rattle.protocol.specs.Cutting.{AreAbortedFrom}
 use Rattle.snap_base.specs.declared.ids.ActorId.{ActorId}
 use Rattle.snap_base.specs.declared.ids.Bid.{Bid}
 use Rattle.snap_base.specs.declared.ids.Tid.{Tid}
@@ -22,7 +23,6 @@ use Rattle.protocol_theorems.specs.Bounds.{tids_here}
 use Rattle.token_ring.specs.Asked.{MayPass}
 use Rattle.batch_table.specs.Joining.{MayJoin}
 use Rattle.actor_cell.specs.Cut.{IsCutFrom}
-use Rattle.hybrid_schedule.specs.Cuts.{AreAbortedFrom}
 use Rattle.txn_records.specs.Records.{Ascend, actor_numbers, tid_numbers, IsState, IsInfo, IsComplete, IsDone}
 
 -- the numbers of an ACT's commit record fit, and its actors ascend and are at most sixteen

@@ -1,5 +1,5 @@
 -- What stands before an event: at a Sync the append of what waits, at a reply its line, and else nothing.
-use Rattle.std.proofs.Common.{◌≡◌, ◌≢◌, ℕ, zero, suc, ◌+◌, ◌≤◌, ◌<◌, ◌==◌, Bool, true, false, not, if◌then◌else◌, inl, inr, ◌||◌, is_some, List, [], ◌∷◌, length, map, drop, slice_get, slice_set, Option, None, Some, Ok, Err, ap, sym, subst, refl, ◌∙◌, arith, true≢false, nat_eq}
+use Rattle.std.proofs.Common.{◌≡◌, ◌≢◌, ℕ, zero, suc, ◌+◌, ◌≤◌, ◌<◌, ◌==◌, Bool, true, false, if◌then◌else◌, inl, inr, ◌||◌, is_some, List, [], ◌∷◌, length, map, drop, slice_get, slice_set, Option, None, Some, Ok, Err, ap, sym, subst, refl, ◌∙◌, arith, true≢false, nat_eq}
 use Rattle.std.specs.Io.KnownBytes.{Appends}
 use Rattle.std.proofs.KnownBytes.{Appends-nil}
 use Rattle.std.proofs.lemmas.Bool.{eq-eqb}

@@ -1,11 +1,12 @@
 -- A schedule that is cut at a batch.
 use Rattle.std.proofs.Common.{◌≡◌, ℕ, ◌≤◌, max, true, false, List, [], ◌∷◌, length, take, drop, refl, sym, ap, ◌∙◌, arith}
 use Rattle.std.specs.Prelude.{if◌then◌else◌}
+use Rattle.protocol.specs.Cutting.{AreAbortedFrom}
 use Rattle.protocol.specs.Parts.{Cascade, Entry, BatchEntry, ActEntry}
 use Rattle.protocol.specs.Words.{is_aborted, batches_on, greatest}
 use Rattle.protocol.specs.OnCell.{staying, going}
 use Rattle.protocol.specs.CellParts.{HybridSchedule, cut_at}
-use Rattle.hybrid_schedule.specs.Cuts.{is_batch_from, staying_below, going_from, cut_from, AreAbortedFrom}
+use Rattle.hybrid_schedule.specs.Cuts.{is_batch_from, staying_below, going_from, cut_from}
 
 -- what stays is as many entries as it has
 pub staying_is_front : (k : ℕ) (es : List Entry) → take (length (staying_below k es)) es ≡ staying_below k es

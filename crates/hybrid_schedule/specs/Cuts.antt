@@ -1,8 +1,7 @@
 -- A schedule that is cut at its first batch that is not below a number.
-use Rattle.std.specs.Prelude.{◌≡◌, ℕ, nat_le, max, Bool, false, if◌then◌else◌, List, [], ◌∷◌}
-use Rattle.std.specs.List.{AllByRecursion}
-use Rattle.protocol.specs.Parts.{Cascade, Entry, BatchEntry, ActEntry}
-use Rattle.protocol.specs.Words.{is_aborted, batches_on, greatest, has_entry}
+use Rattle.std.specs.Prelude.{ℕ, nat_le, max, Bool, false, if◌then◌else◌, List, [], ◌∷◌}
+use Rattle.protocol.specs.Parts.{Entry, BatchEntry, ActEntry}
+use Rattle.protocol.specs.Words.{batches_on, greatest, has_entry}
 use Rattle.protocol.specs.CellParts.{HybridSchedule}
 
 -- it is a batch from k on
@@ -32,7 +31,3 @@ cut_from k epoch h = record {
   tail = 0;
   entries = staying_below k h.entries;
 }
-
--- of the batches here those from k on are aborted, and no others
-abbrev pub AreAbortedFrom : ℕ → List Cascade → List Entry → Type 0
-AreAbortedFrom k cascades entries = AllByRecursion (λ j. is_aborted j cascades ≡ nat_le k j) (batches_on entries)

@@ -1,9 +1,10 @@
 //! What a cut at a batch is, in the words of the cascades.
 ghost use Rattle.std.specs.Prelude.{◌≡◌, ℕ, List, length};
+ghost use Rattle.protocol.specs.Cutting.{AreAbortedFrom};
 ghost use Rattle.protocol.specs.Parts.{Cascade, Entry};
 ghost use Rattle.protocol.specs.OnCell.{going};
 ghost use Rattle.protocol.specs.CellParts.{HybridSchedule, cut_at};
-ghost use Rattle.hybrid_schedule.specs.Cuts.{cut_from, going_from, AreAbortedFrom};
+ghost use Rattle.hybrid_schedule.specs.Cuts.{cut_from, going_from};
 
 /// Where the batches from some number on are the aborted ones, a rollback cuts there.
 pub fn cut_is_at_first_aborted()

@@ -13,7 +13,7 @@ use Rattle.aml_slice.specs.Readers.{AllReading}
 use Rattle.aml_slice.specs.Slicing.{SliceEnd, slice_end, started}
 use Rattle.aml_slice.specs.Finishing.{finished}
 use Rattle.protocol.specs.Meant.{next_meant}
-use Rattle.protocol.specs.Fixed.{Next, Go, Ended, Sliced, Code, is_pact}
+use Rattle.protocol.specs.Fixed.{Sliced, Code, is_pact}
 use Rattle.protocol.specs.Facts.{Alone}
 
 -- ---- what the machine asks of a control

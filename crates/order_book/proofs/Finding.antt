@@ -6,6 +6,7 @@ use Rattle.std.proofs.lemmas.Bool.{cond-true, cond-false, ne_eqb, eq-eqb, eqb-tr
 use Rattle.std.specs.Option.{option_map}
 use Rattle.std.proofs.lemmas.List.Folds.{find_at}
 use Rattle.std.proofs.lemmas.Option.{same_Some, none-some}
+use Rattle.protocol.specs.Cutting.{Ascends}
 use Rattle.snap_base.specs.declared.ids.Tid.{Tid}
 pub use Rattle.snap_base.proofs.Booleans.{eqb_turned}
 use Rattle.protocol.specs.Meant.{tid_number}
@@ -15,7 +16,7 @@ use Rattle.protocol.specs.OnBook.{change_if, changed_act}
 use Rattle.order_book.specs.Asked.{tid_of_act}
 use Rattle.order_book.specs.Changes.{changed_at}
 use Rattle.order_book.specs.Kept.{forgotten}
-use Rattle.order_book.specs.Registered.{tid_with, IsRising, IsPlaceOfAct, act_tids, first_kept}
+use Rattle.order_book.specs.Registered.{tid_with, IsPlaceOfAct, act_tids, first_kept}
 
 -- ---- rising numbers
 
@@ -24,7 +25,7 @@ all_above n [] i all lt = absurd (omega arith)
 all_above n (x ∷ xs) zero all lt = all.0
 all_above n (x ∷ xs) (suc i) all lt = all_above n xs i all.1 (omega arith)
 
-pub rises : (xs : List ℕ) (i j : ℕ) → IsRising xs → i ≤ j → j < length xs → get_or xs i 0 ≤ get_or xs j 0
+pub rises : (xs : List ℕ) (i j : ℕ) → Ascends xs → i ≤ j → j < length xs → get_or xs i 0 ≤ get_or xs j 0
 rises [] i j up le lt = absurd (omega arith)
 rises (x ∷ xs) zero zero up le lt = omega arith
 rises (x ∷ xs) zero (suc j) up le lt = let above : x < get_or xs j 0 = all_above x xs j up.0 (omega arith) in omega arith
@@ -35,11 +36,11 @@ all_push : (n : ℕ) (xs : List ℕ) (t : ℕ) → AllByRecursion (λ k. n < k) 
 all_push n [] t all lt = (lt, tt)
 all_push n (x ∷ xs) t all lt = (all.0, all_push n xs t all.1 lt)
 
-pub rising_push : (xs : List ℕ) (t : ℕ) → IsRising xs → AllByRecursion (λ k. k < t) xs → IsRising (xs ++ t ∷ [])
+pub rising_push : (xs : List ℕ) (t : ℕ) → Ascends xs → AllByRecursion (λ k. k < t) xs → Ascends (xs ++ t ∷ [])
 rising_push [] t up below = (tt, tt)
 rising_push (x ∷ xs) t up below = (all_push x xs t up.0 below.0, rising_push xs t up.1 below.1)
 
-pub rising_drop : (n : ℕ) (xs : List ℕ) → IsRising xs → IsRising (drop n xs)
+pub rising_drop : (n : ℕ) (xs : List ℕ) → Ascends xs → Ascends (drop n xs)
 rising_drop zero xs up = up
 rising_drop (suc n) [] up = up
 rising_drop (suc n) (x ∷ xs) up = rising_drop n xs up.1
@@ -52,7 +53,7 @@ passed x t xs e = cond-true (not (x == t)) (1 + position_or_len (λ n. n == t) x
 reached : (x t : ℕ) (xs : List ℕ) → (x == t) ≡ true → position_or_len (λ n. n == t) (x ∷ xs) ≡ 0
 reached x t xs e = cond-false (not (x == t)) (1 + position_or_len (λ n. n == t) xs) 0 (not_from_true (x == t) e)
 
-pub position_is : (t : ℕ) (xs : List ℕ) (i : ℕ) → IsRising xs → i < length xs → get_or xs i 0 ≡ t → position_or_len (λ n. n == t) xs ≡ i
+pub position_is : (t : ℕ) (xs : List ℕ) (i : ℕ) → Ascends xs → i < length xs → get_or xs i 0 ≡ t → position_or_len (λ n. n == t) xs ≡ i
 position_is t [] i up lt e = absurd (omega arith)
 position_is t (x ∷ xs) zero up lt e = reached x t xs (eq-eqb x t e)
 position_is t (x ∷ xs) (suc i) up lt e =
@@ -89,7 +90,7 @@ untouched t f n (x ∷ xs) le all =
     ap (λ (b : Bool). change_if b f x ∷ changed_act t f xs) (ne_eqb x.tid t (λ (same : x.tid ≡ t). omega (arith, le, all.0, same)))
     ∙ ap (λ (zs : List Act). x ∷ zs) (untouched t f n xs le all.1)
 
-by_test : (t : ℕ) (f : Act → Act) (x : Act) (xs : List Act) → IsRising (act_tids (x ∷ xs)) → changed_act t f xs ≡ changed_at (position_or_len (λ n. n == t) (act_tids xs)) f xs
+by_test : (t : ℕ) (f : Act → Act) (x : Act) (xs : List Act) → Ascends (act_tids (x ∷ xs)) → changed_act t f xs ≡ changed_at (position_or_len (λ n. n == t) (act_tids xs)) f xs
     → (b : Bool) → (x.tid == t) ≡ b → changed_act t f (x ∷ xs) ≡ changed_at (position_or_len (λ n. n == t) (act_tids (x ∷ xs))) f (x ∷ xs)
 by_test t f x xs up rest true e =
     ap (λ (c : Bool). change_if c f x ∷ changed_act t f xs) e
@@ -100,7 +101,7 @@ by_test t f x xs up rest false e =
     ∙ (ap (λ (zs : List Act). x ∷ zs) rest
     ∙ ap (λ (at : ℕ). changed_at at f (x ∷ xs)) (sym (passed x.tid t (act_tids xs) e)))
 
-changes_there : (t : ℕ) (f : Act → Act) (acts : List Act) → IsRising (act_tids acts) → changed_act t f acts ≡ changed_at (position_or_len (λ n. n == t) (act_tids acts)) f acts
+changes_there : (t : ℕ) (f : Act → Act) (acts : List Act) → Ascends (act_tids acts) → changed_act t f acts ≡ changed_at (position_or_len (λ n. n == t) (act_tids acts)) f acts
 changes_there t f [] up = refl
 changes_there t f (x ∷ xs) up = by_test t f x xs up (changes_there t f xs up.1) (x.tid == t) refl
 
@@ -109,7 +110,7 @@ all_with : (n : ℕ) (P Q : Act → Type 0) (acts : List Act) → ((x : Act) →
 all_with n P Q [] step above all = tt
 all_with n P Q (x ∷ xs) step above all = (step x above.0 all.0, all_with n P Q xs step above.1 all.1)
 
-only_one : (t : ℕ) (acts : List Act) → IsRising (act_tids acts) → AllByRecursion (λ (x : Act). (x.tid == t) ≡ true → act_of t acts ≡ Some x) acts
+only_one : (t : ℕ) (acts : List Act) → Ascends (act_tids acts) → AllByRecursion (λ (x : Act). (x.tid == t) ≡ true → act_of t acts ≡ Some x) acts
 only_one t [] up = tt
 only_one t (x ∷ xs) up = (
   λ e. cond-true (x.tid == t) (Some x) (act_of t xs) e,
@@ -118,7 +119,7 @@ only_one t (x ∷ xs) up = (
       up.0 (only_one t xs up.1),
 )
 
-pub placed_at : (t : ℕ) (acts : List Act) → IsRising (act_tids acts) → IsPlaceOfAct t (position_or_len (λ n. n == t) (act_tids acts)) acts
+pub placed_at : (t : ℕ) (acts : List Act) → Ascends (act_tids acts) → IsPlaceOfAct t (position_or_len (λ n. n == t) (act_tids acts)) acts
 placed_at t acts up = record { found = found_at t acts; changes = λ f. changes_there t f acts up; only = only_one t acts up }
 
 -- ---- tids and transactions stay
@@ -186,10 +187,10 @@ found_by n t true x xs above rest e = cond-true (x.tid == t) (Some x) (act_of t 
 found_by n t false x xs above rest e =
     cond-false (x.tid == t) (Some x) (act_of t xs) (ne_eqb x.tid t (λ (same : x.tid ≡ t). omega (arith, same, tid_above x.tid n t xs above e))) ∙ rest e
 
-found_first : (n t : ℕ) (acts : List Act) → IsRising (act_tids acts) → tid_with n acts ≡ Some t → act_of t acts ≡ find (λ (x : Act). x.tx == n) acts
+found_first : (n t : ℕ) (acts : List Act) → Ascends (act_tids acts) → tid_with n acts ≡ Some t → act_of t acts ≡ find (λ (x : Act). x.tx == n) acts
 found_first n t [] up e = absurd (none-some t e)
 found_first n t (x ∷ xs) up e = found_by n t (x.tx == n) x xs up.0 (found_first n t xs up.1) e
 
-pub found_with : (n : ℕ) (acts : List Act) (r : Option Tid) → IsRising (act_tids acts) → option_map tid_number r ≡ tid_with n acts → IfSome r (λ t. act_of t.0 acts ≡ find (λ (x : Act). x.tx == n) acts)
+pub found_with : (n : ℕ) (acts : List Act) (r : Option Tid) → Ascends (act_tids acts) → option_map tid_number r ≡ tid_with n acts → IfSome r (λ t. act_of t.0 acts ≡ find (λ (x : Act). x.tx == n) acts)
 found_with n acts None up e = tt
 found_with n acts (Some t) up e = found_first n t.0 acts up (sym e)

@@ -5,6 +5,7 @@ use Rattle.std.specs.List.{All, AllByRecursion}
 use Rattle.std.proofs.lemmas.Bool.{eqb-true, eqb-false, false≢true}
 use Rattle.std.proofs.lemmas.List.{length-map, map_push, get_or-set_same, get_or-set_other}
 use Rattle.std.proofs.lemmas.List.Elements.{recursion_from_All}
+use Rattle.protocol.specs.Cutting.{Ascends}
 use Rattle.protocol.specs.Parts.{Act}
 use Rattle.protocol.specs.Words.{holds, is_live_act}
 use Rattle.protocol.specs.OnBook.{new_act}
@@ -13,7 +14,7 @@ use Rattle.order_book.specs.declared.change.Change.TheVariants.{Lower, Cross, Ra
 use Rattle.order_book.specs.Kept.{forgotten}
 use Rattle.order_book.specs.Changes.{changed_at, changed_by}
 use Rattle.protocol.specs.Numbers.{one_if}
-use Rattle.order_book.specs.Registered.{IsRegistered, IsRising, first_kept}
+use Rattle.order_book.specs.Registered.{IsRegistered, first_kept}
 use Rattle.order_book.proofs.Finding.{tids_changed, found_changed, tids_forgotten, found_forgotten, found_push, rising_push, tids_below}
 use Rattle.order_book.proofs.Counting.{count_changed, count_small, one_if_small, count_push, count_forgotten}
 
@@ -112,7 +113,7 @@ noted_now xs at n t lt none = noted_by xs at n t lt none (at == n) refl
 pub registered_grown : (acts : List Act) (tids ids : List ℕ) (by_tx more : List (Option ℕ)) (live : ℕ) → IsRegistered acts tids by_tx live → ids ≡ tids → ((n : ℕ) → get_or more n None ≡ get_or by_tx n None) → IsRegistered acts ids more live
 registered_grown acts tids ids by_tx more live r e same = record {
   listed = e ∙ r.listed;
-  rising = subst IsRising (sym e) r.rising;
+  rising = subst Ascends (sym e) r.rising;
   found = λ n. same n ∙ r.found n;
   counted = r.counted;
 }

@@ -1,15 +1,11 @@
 -- All ACTs in the order of their admission, with what finds and counts them.
-use Rattle.std.specs.Prelude.{◌≡◌, ℕ, ◌<◌, ◌==◌, max, Bool, true, if◌then◌else◌, Option, Some, None, List, [], ◌∷◌, map, slice_get, slice_index_or, ⊤}
+use Rattle.std.specs.Prelude.{◌≡◌, ℕ, ◌==◌, max, Bool, true, if◌then◌else◌, Option, Some, None, List, [], ◌∷◌, map, slice_get, slice_index_or}
 use Rattle.std.specs.List.{AllByRecursion}
+use Rattle.protocol.specs.Cutting.{Ascends}
 use Rattle.protocol.specs.Parts.{Act, Pair}
 use Rattle.protocol.specs.Words.{count, is_doomed, is_live_act, act_of}
 use Rattle.protocol.specs.OnBook.{changed_act}
 use Rattle.order_book.specs.Changes.{changed_at}
-
--- each number is below all that follow
-abbrev pub IsRising : List ℕ → Type 0
-IsRising [] = ⊤
-IsRising (n ∷ ns) = AllByRecursion (λ k. n < k) ns × IsRising ns
 
 abbrev pub act_tids : List Act → List ℕ
 act_tids acts = map (λ x. x.tid) acts
@@ -22,7 +18,7 @@ tid_with n (x ∷ xs) = if x.tx == n then Some x.tid else tid_with n xs
 -- the tids ascend; by transaction there is the tid of its first ACT; and so many are live
 pub record IsRegistered (acts : List Act) (tids : List ℕ) (by_tx : List (Option ℕ)) (live : ℕ) : Type 0 where
   pub listed : tids ≡ act_tids acts
-  pub rising : IsRising tids
+  pub rising : Ascends tids
   pub found : (n : ℕ) → slice_index_or by_tx n None ≡ tid_with n acts
   pub counted : live ≡ count is_live_act acts
 

@@ -2,6 +2,7 @@
 ghost use Rattle.std.specs.Prelude.{◌≡◌, ◌<◌, ◌≤◌, ◌+◌, ◌==◌, ◌^◌, ℕ, map, List, [], ◌∷◌, ◌++◌, length, if◌then◌else◌, OnOk, OnErr, slice_get, slice_index, slice_index_or, find, IfSome, None, drop, vec_len, vec_capacity};
 ghost use Rattle.std.specs.List.{All, position_or_len};
 ghost use Rattle.std.specs.Option.{option_map};
+ghost use Rattle.protocol.specs.Cutting.{Ascends};
 ghost use Rattle.protocol.specs.Meant.{tid_number};
 ghost use Rattle.protocol.specs.Words.{act_of, count, holds, is_doomed, is_live_act};
 ghost use Rattle.protocol.specs.OnBook.{new_act, joins};
@@ -10,7 +11,7 @@ ghost use Rattle.order_book.specs.Kept.{forgotten};
 ghost use Rattle.order_book.specs.Changes.{changed_by, changed_at, carried_at};
 ghost use Rattle.order_book.specs.Walking.{is_walked_at};
 ghost use Rattle.protocol.specs.Numbers.{one_if};
-ghost use Rattle.order_book.specs.Registered.{IsRising, IsPlaceOfAct, first_kept, act_tids, before_undoomed, brought_by};
+ghost use Rattle.order_book.specs.Registered.{IsPlaceOfAct, first_kept, act_tids, before_undoomed, brought_by};
 
 use crate::acts::Acts;
 use crate::change::Change;
@@ -198,7 +199,7 @@ impl Register {
 
 /// The place of a number among rising ones, or their length.
 fn place_in(tids: &[u64], t: u64) -> usize
-    requires { IsRising tids.now }
+    requires { Ascends tids.now }
     ensures { result ≡ position_or_len (λ n. n == t) tids.now }
 {
     match tids.binary_search(&t) {

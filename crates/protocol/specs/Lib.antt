@@ -4,6 +4,7 @@ pub mod CellParts
 pub mod Chains
 pub mod Conditions
 pub mod Contents
+pub mod Cutting
 pub mod Effects
 pub mod Epochs
 pub mod Events

@@ -53,14 +53,14 @@ abbrev pub IsBelowEach : Rank → List Event → Type 0
 IsBelowEach r [] = ⊤
 IsBelowEach r (e ∷ es) = (is_rank_below r (rank e) ≡ true) × IsBelowEach r es
 
-abbrev pub Ascends : List Event → Type 0
-Ascends [] = ⊤
-Ascends (e ∷ es) = IsBelowEach (rank e) es × Ascends es
+abbrev pub AscendByRank : List Event → Type 0
+AscendByRank [] = ⊤
+AscendByRank (e ∷ es) = IsBelowEach (rank e) es × AscendByRank es
 
 -- all allowed events, in order
 pub record IsEnabled {C : Type 0} (w : Fixed C) (s : Machine C) (es : List Event) : Type 0 where
   pub all : (e : Event) → Contains es e ↔ IsAllowed w e s
-  pub ascends : Ascends es
+  pub ascends : AscendByRank es
 
 -- ---- the pick
 

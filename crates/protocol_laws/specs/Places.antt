@@ -2,15 +2,11 @@
 -- Proofs cite this, and `OnActors` its `Ascends`; the rule is `OrderHolds` (Order).
 use Rattle.std.specs.Prelude.{◌≡◌, ℕ, ◌<◌, ◌≤◌, Bool, true, false, ◌||◌, List, [], ◌∷◌, length, ⊤}
 use Rattle.std.specs.List.{AllByRecursion}
+use Rattle.protocol.specs.Cutting.{Ascends}
 use Rattle.protocol.specs.Parts.{Cascade, Who, OfBatch, OfAct}
 use Rattle.protocol.specs.Words.{is_aborted, epoch_of, is_who}
 use Rattle.protocol.specs.History.{Ran, Stands, Gone, batches_in}
 use Rattle.protocol_laws.specs.Tracks.{keys_in, is_key_among}
-
--- each is below all that follow
-abbrev pub Ascends : List ℕ → Type 0
-Ascends [] = ⊤
-Ascends (k ∷ ks) = AllByRecursion (λ j. k < j) ks × Ascends ks
 
 abbrev pub has_gone : List Ran → Bool
 has_gone [] = false

@@ -3,7 +3,7 @@ use Rattle.std.specs.Prelude.{◌≡◌, refl, ℕ, ◌<◌, ◌==◌, nat_lt, B
 use Rattle.std.proofs.Common.{arith, sym, ap, inl, inr, ◌∙◌}
 use Rattle.std.proofs.lemmas.Bool.{eqb-true, eq-eqb, and_parts, and_from, or_left, or_right, or_cases, ltb-true, lt-ltb, true≢false, cases_lt}
 use Rattle.protocol.specs.Events.{Event, Submit, Pass, Form, Admit, Arrive, Ask, Take, Run, Send, End, Close, Complete, Sync, Note, Commit, Settle, Abort, Rollback, DropSub, DropControl, Prepare, Vouch, Decide, Seal, Finish, Reply, Trim}
-use Rattle.protocol.specs.Schedule.{Rank, rank, ranked, is_rank_below, IsBelowEach, Ascends}
+use Rattle.protocol.specs.Schedule.{Rank, rank, ranked, is_rank_below, IsBelowEach, AscendByRank}
 use Rattle.protocol_ready.specs.Ready.{put}
 use Rattle.protocol_ready.proofs.Listing.{Has}
 
@@ -147,11 +147,11 @@ below_put r e (x ∷ xs) h g = by (is_rank_below (rank e) (rank x)) (is_rank_bel
     by false true i = (g.0, i)
     by false false i = g
 
-pub ascends_put : (e : Event) (xs : List Event) → Ascends xs → Ascends (put e xs)
+pub ascends_put : (e : Event) (xs : List Event) → AscendByRank xs → AscendByRank (put e xs)
 ascends_put e [] h = (tt, tt)
 ascends_put e (x ∷ xs) h = by (is_rank_below (rank e) (rank x)) refl (is_rank_below (rank x) (rank e)) refl (ascends_put e xs h.1)
   where
-    by : (b : Bool) → is_rank_below (rank e) (rank x) ≡ b → (c : Bool) → is_rank_below (rank x) (rank e) ≡ c → Ascends (put e xs) → Ascends (if b then e ∷ x ∷ xs else if c then x ∷ put e xs else x ∷ xs)
+    by : (b : Bool) → is_rank_below (rank e) (rank x) ≡ b → (c : Bool) → is_rank_below (rank x) (rank e) ≡ c → AscendByRank (put e xs) → AscendByRank (if b then e ∷ x ∷ xs else if c then x ∷ put e xs else x ∷ xs)
     by true p c q i = ((p, below_more (rank e) (rank x) xs p h.0), h)
     by false p true q i = (below_put (rank x) e xs q h.0, i)
     by false p false q i = h

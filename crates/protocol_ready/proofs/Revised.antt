@@ -7,7 +7,7 @@ use Rattle.protocol.specs.Parts.{Machine}
 use Rattle.protocol.specs.Events.{Event, Abort}
 use Rattle.protocol.specs.Conditions.{IsAllowed, refusal}
 use Rattle.protocol.specs.Effects.{after}
-use Rattle.protocol.specs.Schedule.{rank, is_rank_below, Ascends, IsEnabled}
+use Rattle.protocol.specs.Schedule.{rank, is_rank_below, AscendByRank, IsEnabled}
 use Rattle.protocol_laws.proofs.first.Ordered.{filtered}
 use Rattle.protocol_ready.specs.Touched.{IsSound, is_touched}
 use Rattle.protocol_ready.specs.Lying.{live}
@@ -71,7 +71,7 @@ unfolding are_apart
 left_by_one true e xs g h n = put_has e xs g (inr h)
 left_by_one false e xs g h n = elim (same_or_apart g e) [ inl q ↦ absurd (n (sym q)) | inr d ↦ has_filter (λ x. is_rank_below (rank x) (rank e) || is_rank_below (rank e) (rank x)) xs g h d ]
 
-ascends_one : (b : Bool) (e : Event) (xs : List Event) → Ascends xs → Ascends (put_or_take b e xs)
+ascends_one : (b : Bool) (e : Event) (xs : List Event) → AscendByRank xs → AscendByRank (put_or_take b e xs)
 ascends_one true e xs h = ascends_put e xs h
 ascends_one false e xs h = filtered _ xs h
 
@@ -108,7 +108,7 @@ put_in w t (e ∷ es) xs g ruled (inl y) ok = elim (has_or_not es g) [
     there true q = put_has e xs g (inl y)
     there false q = absurd (true≢false (sym q))
 
-ascends_revised : {C : Type 0} (w : Fixed C) (t : Machine C) (es xs : List Event) → Ascends xs → Ascends (revised w t es xs)
+ascends_revised : {C : Type 0} (w : Fixed C) (t : Machine C) (es xs : List Event) → AscendByRank xs → AscendByRank (revised w t es xs)
 ascends_revised w t [] xs h = h
 ascends_revised w t (e ∷ es) xs h = ascends_revised w t es (put_or_take (refusal w e t == 0) e xs) (ascends_one (refusal w e t == 0) e xs h)
 

@@ -9,7 +9,7 @@ use Rattle.protocol.specs.Events.{Event, Submit, Pass, Form, Admit, Arrive, Ask,
 use Rattle.protocol.specs.Conditions.{IsAllowed}
 use Rattle.protocol.specs.Effects.{after}
 use Rattle.protocol.specs.Runs.{reached}
-use Rattle.protocol.specs.Schedule.{Ascends, IsEnabled}
+use Rattle.protocol.specs.Schedule.{AscendByRank, IsEnabled}
 use Rattle.protocol_ready.specs.Touched.{is_touched, is_abort}
 
 -- ---- where an event is, and what kind it is of
@@ -158,7 +158,7 @@ pub record IsRenewed {C : Type 0} (w : Fixed C) (e : Event) (s : Machine C) (old
   pub own : IsAllowed w e (after w e s) ⊎ (Contains new e → ⊥)
   pub kept : (f : Event) → Contains old f → IsAllowed w f (after w e s) → Contains new f
   pub told : (f : Event) → is_touched w e s f ≡ true → (IsAllowed w f s → ⊥) → IsAllowed w f (after w e s) → Contains new f
-  pub ascends : Ascends old → Ascends new
+  pub ascends : AscendByRank old → AscendByRank new
 
 -- So renewed, all allowed events before an event are all allowed ones after it.
 abbrev pub RenewedAreEnabled : {C : Type 0} → Fixed C → (C → List State → Alone) → List Event → Type 0

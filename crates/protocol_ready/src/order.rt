@@ -2,7 +2,7 @@
 
 ghost use Rattle.std.specs.Prelude.{◌≡◌, ◌↔◌, ◌⊎◌, true, false, Contains, List};
 ghost use Rattle.protocol.specs.Events.{Event};
-ghost use Rattle.protocol.specs.Schedule.{Ascends, Rank, is_rank_below};
+ghost use Rattle.protocol.specs.Schedule.{AscendByRank, Rank, is_rank_below};
 ghost use Rattle.protocol_ready.specs.Ready.{put, without};
 
 /// No rank is below itself; what is below one that is below a third is below the third; and of two ranks one is below the
@@ -15,8 +15,8 @@ pub fn ranks_are_in_order()
 
 /// Ascending events ascend with an event put in, and without one.
 pub fn events_stay_in_order()
-    ensures put { (e : Event) (es : List Event) → Ascends es → Ascends (put e es) }
-    ensures without { (e : Event) (es : List Event) → Ascends es → Ascends (without e es) }
+    ensures put { (e : Event) (es : List Event) → AscendByRank es → AscendByRank (put e es) }
+    ensures without { (e : Event) (es : List Event) → AscendByRank es → AscendByRank (without e es) }
 {}
 
 /// A list into which an event is put has just that one more.

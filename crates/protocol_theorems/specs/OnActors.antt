@@ -1,23 +1,18 @@
 -- What lies on an actor, and how much: what a rollback finds there, and the limits of what is live.
 use Rattle.std.specs.Prelude.{◌≡◌, ℕ, ◌+◌, ◌<◌, ◌≤◌, nat_le, true, false, Some, is_some, List, [], ◌∷◌, length, slice_get, ⊤}
 use Rattle.std.specs.List.{AllByRecursion}
+use Rattle.protocol.specs.Cutting.{Ascends, HaveRunInOrder}
 use Rattle.snap_base.specs.declared.transactions.State.{State}
 use Rattle.protocol.specs.Fixed.{Fixed}
 use Rattle.protocol.specs.Facts.{Alone}
-use Rattle.protocol.specs.Parts.{Act, Cascade, Entry, BatchEntry, ActEntry, Image, Cell, Machine}
-use Rattle.protocol.specs.Words.{holds, count, act_of, is_aborted, is_doomed, is_complete_batch, is_live_act, is_live_batch, batches_on, acts_on, image_of, who_on}
+use Rattle.protocol.specs.Parts.{Act, Cascade, Entry, BatchEntry, ActEntry, Cell, Machine}
+use Rattle.protocol.specs.Words.{holds, count, act_of, is_aborted, is_doomed, is_live_act, is_live_batch, batches_on, acts_on, image_of, who_on}
 use Rattle.protocol.specs.Events.{Run}
 use Rattle.protocol.specs.Conditions.{IsAllowed, epoch}
 use Rattle.protocol.specs.Effects.{cell_at}
 use Rattle.protocol.specs.OnCell.{is_entry_among}
 use Rattle.protocol.specs.History.{History}
-use Rattle.protocol_laws.specs.Places.{Ascends}
 use Rattle.protocol_laws.specs.Sees.{SeesAt}
-
--- behind an entry that is no complete batch nothing has run that changes the state, so no image was taken
-abbrev pub HaveRunInOrder : List Entry → List Image → Type 0
-HaveRunInOrder [] images = ⊤
-HaveRunInOrder (e ∷ es) images = (is_complete_batch e ≡ false → AllByRecursion (λ i. is_entry_among i.who es ≡ false) images) × HaveRunInOrder es images
 
 -- behind an aborted batch all ACTs are doomed
 abbrev pub AreTakenAlong : List Cascade → List Act → List Entry → Type 0

@@ -6,7 +6,7 @@ use Rattle.std.proofs.lemmas.Bool.{true≢false, cases_lt, or_right, ltb-true, l
 use Rattle.core_events.specs.Meant.{event_meant}
 use Rattle.core_events.specs.declared.events.Event as code
 use Rattle.protocol.specs.Events.{Event}
-use Rattle.protocol.specs.Schedule.{Rank, rank, is_rank_below, IsBelowEach, Ascends}
+use Rattle.protocol.specs.Schedule.{Rank, rank, is_rank_below, IsBelowEach, AscendByRank}
 use Rattle.protocol_ready.specs.Ready.{put, without}
 use Rattle.ready_list.specs.Order.{is_before, rank_of, at, IsGap, is_there}
 use Rattle.ready_list.specs.declared.places.Place.{Place}
@@ -28,7 +28,7 @@ below_at r [] i b h = absurd (omega (arith, h))
 below_at r (e ∷ es) zero b h = b.0
 below_at r (e ∷ es) (suc i) b h = below_at r es i b.1 (omega (arith, h))
 
-ascends_at : (es : List Event) (i j : ℕ) → Ascends es → i < j → j < length es → is_before (at es i) (at es j) ≡ true
+ascends_at : (es : List Event) (i j : ℕ) → AscendByRank es → i < j → j < length es → is_before (at es i) (at es j) ≡ true
 ascends_at [] i j a h g = absurd (omega (arith, g))
 ascends_at (e ∷ es) i zero a h g = absurd (omega (arith, h))
 ascends_at (e ∷ es) zero (suc j) a h g = below_at (rank e) es j a.0 (omega (arith, g))
@@ -45,7 +45,7 @@ pub record IsBetween (es : List Event) (e : Event) (low high : ℕ) : Type 0 whe
 pub at_first : (es : List Event) (e : Event) (n : ℕ) → n ≡ length es → IsBetween es e 0 n
 at_first es e n h = record { order = omega arith; within = omega (arith, h); ahead = λ j g. absurd (omega (arith, g)); behind = λ j g k. absurd (omega (arith, h, g, k)) }
 
-pub higher : (es : List Event) (e : Event) (low high middle : ℕ) → Through → Ascends es → IsBetween es e low high → middle < high → is_before (at es middle) e ≡ true → IsBetween es e (middle + 1) high
+pub higher : (es : List Event) (e : Event) (low high middle : ℕ) → Through → AscendByRank es → IsBetween es e low high → middle < high → is_before (at es middle) e ≡ true → IsBetween es e (middle + 1) high
 higher es e low high middle through a b m h = record {
   order = omega (arith, m);
   within = b.within;
@@ -56,7 +56,7 @@ higher es e low high middle through a b m h = record {
   behind = b.behind;
 }
 
-pub lower : (es : List Event) (e : Event) (low high middle : ℕ) → Through → Ascends es → IsBetween es e low high → low ≤ middle → middle < high → is_before (at es middle) e ≡ false → IsBetween es e low middle
+pub lower : (es : List Event) (e : Event) (low high middle : ℕ) → Through → AscendByRank es → IsBetween es e low high → low ≤ middle → middle < high → is_before (at es middle) e ≡ false → IsBetween es e low middle
 lower es e low high middle through a b m n h = record {
   order = m;
   within = omega (arith, n, b.within);
@@ -174,7 +174,7 @@ below_more : (q r : Rank) (es : List Event) → Through → is_rank_below q r �
 below_more q r [] through h g = tt
 below_more q r (x ∷ es) through h g = (through q r (rank x) h g.0, below_more q r es through h g.1)
 
-take_there : (es : List Event) (e : Event) (i : ℕ) → Same → Ascends es → IsGap es e i → i < length es → is_before e (at es i) ≡ false → without e es ≡ remove es i
+take_there : (es : List Event) (e : Event) (i : ℕ) → Same → AscendByRank es → IsGap es e i → i < length es → is_before e (at es i) ≡ false → without e es ≡ remove es i
 take_there [] e i same a g h n = absurd (omega (arith, h))
 take_there (x ∷ es) e zero same a g h n =
     let b : is_before x e ≡ false = g.behind 0 (omega arith) h in
@@ -183,15 +183,15 @@ take_there (x ∷ es) e (suc i) same a g h n =
     let b : is_before x e ≡ true = g.ahead 0 (omega arith) in
     rw (b, take_there es e i same a.1 (tail_gap x es e i g) (omega (arith, h)) n) refl
 
-take_none : (es : List Event) (e : Event) (i : ℕ) → Through → Ascends es → IsGap es e i → (i < length es → is_before e (at es i) ≡ true) → without e es ≡ es
+take_none : (es : List Event) (e : Event) (i : ℕ) → Through → AscendByRank es → IsGap es e i → (i < length es → is_before e (at es i) ≡ true) → without e es ≡ es
 take_none [] e i through a g n = refl
 take_none (x ∷ es) e zero through a g n = let b : is_before e x ≡ true = n (omega arith) in kept_all e (x ∷ es) (b, below_more (rank e) (rank x) es through b a.0)
 take_none (x ∷ es) e (suc i) through a g n =
     let b : is_before x e ≡ true = g.ahead 0 (omega arith) in
     rw (b, take_none es e i through a.1 (tail_gap x es e i g) (λ h. n (omega (arith, h)))) refl
 
-pub take_where_there : (es : List Event) (e : Event) (i : ℕ) → Same → Ascends es → IsGap es e i → is_there es e i ≡ true → remove es i ≡ without e es
+pub take_where_there : (es : List Event) (e : Event) (i : ℕ) → Same → AscendByRank es → IsGap es e i → is_there es e i ≡ true → remove es i ≡ without e es
 take_where_there es e i same a g h = let q = there_parts es e i h in sym (take_there es e i same a g q.0 q.1)
 
-pub take_where_none : (es : List Event) (e : Event) (i : ℕ) → Through → Ascends es → IsGap es e i → is_there es e i ≡ false → es ≡ without e es
+pub take_where_none : (es : List Event) (e : Event) (i : ℕ) → Through → AscendByRank es → IsGap es e i → is_there es e i ≡ false → es ≡ without e es
 take_where_none es e i through a g h = sym (take_none es e i through a g (not_there es e i h))

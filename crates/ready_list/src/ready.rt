@@ -26,14 +26,14 @@ impl Model for ReadyList {
     ghost use Rattle.std.specs.Prelude.{◌-◌, map};
     ghost use Rattle.std.specs.VecDeque.{deque_len, deque_capacity};
     ghost use Rattle.core_events.specs.Meant.{event_meant};
-    ghost use Rattle.protocol.specs.Schedule.{Ascends};
+    ghost use Rattle.protocol.specs.Schedule.{AscendByRank};
     ghost use Rattle.ready_list.specs.Order.{RoomedList};
 
     ghost Value = { RoomedList };
 
     ghost view = { λ l. record { events = map event_meant l.events.items; spare = deque_capacity l.events - deque_len l.events } };
 
-    ghost invariant = { λ l. Ascends (map event_meant l.events.items) };
+    ghost invariant = { λ l. AscendByRank (map event_meant l.events.items) };
 }
 
 impl ReadyList {

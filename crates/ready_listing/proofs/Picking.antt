@@ -13,7 +13,7 @@ use Rattle.protocol.specs.Events.{Event}
 use Rattle.protocol.specs.Fixed.{Fixed}
 use Rattle.protocol.specs.Laws.{AfterEveryRun, AfterEveryRunWithHistory}
 use Rattle.protocol.specs.Parts.{Book, Post, Desk, Cell, Machine}
-use Rattle.protocol.specs.Schedule.{Ascends}
+use Rattle.protocol.specs.Schedule.{AscendByRank}
 use Rattle.protocol_theorems.specs.Sizes.{SizesHold}
 use Rattle.protocol_ready.specs.Ready.{put}
 use Rattle.protocol_ready.specs.Telling.{PartsTell, PostTells, CellTells, DeskTells, BookTells, AnswersTell}
@@ -27,7 +27,7 @@ use Rattle.ready_listing.proofs.Whole.{parts_tell}
 
 pub looked_put : (w : Fixed Rest) (h : Parts) (e : Event) (old new : List Event) → new ≡ put e old
     → ((e : Event) (es : List Event) (f : Event) → Contains (put e es) f ↔ ((f ≡ e) ⊎ Contains es f))
-    → ((e : Event) (es : List Event) → Ascends es → Ascends (put e es))
+    → ((e : Event) (es : List Event) → AscendByRank es → AscendByRank (put e es))
     → IsOffered w h e → IsLooked w h e old new
 looked_put w h e old new same one order offered = subst (λ v. IsLooked w h e old v) (sym same) (record {
   only = λ f c. elim ((one e old f).0 c) [ inl s ↦ inr (subst (IsOffered w h) (sym s) offered) | inr i ↦ inl i ];

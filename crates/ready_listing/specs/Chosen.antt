@@ -7,7 +7,7 @@ use Rattle.protocol.specs.Conditions.{IsAllowed}
 use Rattle.protocol.specs.Events.{Event, footprint}
 use Rattle.protocol.specs.Fixed.{Fixed}
 use Rattle.protocol.specs.Parts.{Machine}
-use Rattle.protocol.specs.Schedule.{Ascends}
+use Rattle.protocol.specs.Schedule.{AscendByRank}
 use Rattle.snap_hand.specs.Hands.{Parts, Fits, HasFootprint, is_at_hand}
 use Rattle.snap_hand.specs.Steps.{IsRefusalOn}
 
@@ -32,10 +32,10 @@ pub record IsLooked (w : Fixed Rest) (h : Parts) (e : Event) (old new : List Eve
   pub only : (f : Event) → Contains new f → Contains old f ⊎ IsOffered w h f
   pub kept : (f : Event) → Contains old f → Contains new f
   pub due : IsDue w h e → Contains new e
-  pub ascends : Ascends old → Ascends new
+  pub ascends : AscendByRank old → AscendByRank new
 
 -- In order, all that are due of these events, and only what is offered.
 pub record AreChosen (w : Fixed Rest) (h : Parts) (listed chosen : List Event) : Type 0 where
   pub only : (f : Event) → Contains chosen f → IsOffered w h f
   pub due : (f : Event) → Contains listed f → IsDue w h f → Contains chosen f
-  pub ascends : Ascends chosen
+  pub ascends : AscendByRank chosen

@@ -6,10 +6,10 @@ use Rattle.protocol.specs.Conditions.{IsAllowed}
 use Rattle.protocol.specs.Events.{Event}
 use Rattle.protocol.specs.Fixed.{Fixed}
 use Rattle.protocol.specs.Parts.{Machine}
-use Rattle.protocol.specs.Schedule.{Ascends}
+use Rattle.protocol.specs.Schedule.{AscendByRank}
 use Rattle.snap_hand.specs.Hands.{Parts, Fits, HasFootprint}
 
 -- In each state that the hand fits these are the allowed events whose footprint is at hand, in order.
 pub record AreOffers (w : Fixed Rest) (h : Parts) (es : List Event) : Type 0 where
   pub all : (s : Machine Rest) → HasRun w s → Fits h s → (e : Event) → Contains es e ↔ (IsAllowed w e s × HasFootprint w e h)
-  pub ascends : Ascends es
+  pub ascends : AscendByRank es

@@ -6,7 +6,7 @@ use Rattle.protocol.specs.Conditions.{IsAllowed, refusal}
 use Rattle.protocol.specs.Events.{Event}
 use Rattle.protocol.specs.Fixed.{Fixed}
 use Rattle.protocol.specs.Parts.{Machine}
-use Rattle.protocol.specs.Schedule.{Ascends, Rank, is_rank_below, rank}
+use Rattle.protocol.specs.Schedule.{AscendByRank, Rank, is_rank_below, rank}
 use Rattle.protocol_laws.proofs.first.Ordered.{filtered}
 use Rattle.protocol_ready.specs.Ready.{without}
 use Rattle.protocol_ready.proofs.Listing.{from_filter, from_has, has_filter, to_has}
@@ -43,7 +43,7 @@ covers_same w h es s run fits c = c
 
 pub covers_without : (w : Fixed Rest) (h : Parts) (e : Event) (old list new : List Event)
     → ((e : Event) (es : List Event) (f : Event) → Contains es f → Contains (without e es) f ⊎ (f ≡ e))
-    → ((e : Event) (es : List Event) → Ascends es → Ascends (without e es))
+    → ((e : Event) (es : List Event) → AscendByRank es → AscendByRank (without e es))
     → IsRefusedOn w h e → new ≡ without e list → CoversStill w h old list → CoversStill w h old new
 covers_without w h e old list new kept order refused taken still s run fits c = subst (Covers w s) (sym taken) (record {
   all = λ f now. elim (kept e list f ((still s run fits c).all f now)) [

@@ -13,7 +13,7 @@ use Rattle.protocol.specs.Events.{Event, Submit, Reply, Trim}
 use Rattle.protocol.specs.Fixed.{Fixed}
 use Rattle.protocol.specs.Laws.{OfEveryRun}
 use Rattle.protocol.specs.Parts.{Machine}
-use Rattle.protocol.specs.Schedule.{Ascends, IsEnabled}
+use Rattle.protocol.specs.Schedule.{AscendByRank, IsEnabled}
 use Rattle.protocol_ready.specs.Ready.{put, without}
 use Rattle.protocol_ready.specs.Refusing.{IsRenewed, RenewedAreEnabled, bid_of, is_at, is_in_reach, may_refuse}
 use Rattle.protocol_ready.specs.Telling.{PartsTell}
@@ -62,7 +62,7 @@ none_out es = record { only = λ f c. (c, none_in f); kept = λ f c. inl c; asce
 pub one_out : (xs : List code.Event) (i : ℕ) (x : code.Event) (old list new : List Event) → i < length xs → x ≡ get_or xs i x
     → ((e : Event) (es : List Event) (f : Event) → Contains (without e es) f → Contains es f × (f ≡ e → ⊥))
     → ((e : Event) (es : List Event) (f : Event) → Contains es f → Contains (without e es) f ⊎ (f ≡ e))
-    → ((e : Event) (es : List Event) → Ascends es → Ascends (without e es))
+    → ((e : Event) (es : List Event) → AscendByRank es → AscendByRank (without e es))
     → IsWithout (map event_meant (take i xs)) old list → new ≡ without (event_meant x) list → IsWithout (map event_meant (take (i + 1) xs)) old new
 one_out xs i x old list new within is others kept order so_far same = subst (IsWithout (map event_meant (take (i + 1) xs)) old) (sym same) (record {
   only = λ f c.
@@ -83,7 +83,7 @@ all_out xs i old new past so_far = subst (λ v. IsWithout (map event_meant v) ol
 
 pub looked_put : (w : Fixed Rest) (h : Parts) (e : Event) (old new : List Event) → new ≡ put e old
     → ((e : Event) (es : List Event) (f : Event) → Contains (put e es) f ↔ ((f ≡ e) ⊎ Contains es f))
-    → ((e : Event) (es : List Event) → Ascends es → Ascends (put e es))
+    → ((e : Event) (es : List Event) → AscendByRank es → AscendByRank (put e es))
     → IsAllowedOn w h e → IsPutIn w h e old new
 looked_put w h e old new same one order allowed = subst (λ v. IsPutIn w h e old v) (sym same) (record {
   only = λ f c. elim ((one e old f).0 c) [ inl s ↦ inr (subst (IsAllowedOn w h) (sym s) allowed) | inr i ↦ inl i ];

@@ -6,7 +6,7 @@ use Rattle.protocol.specs.Conditions.{IsAllowed}
 use Rattle.protocol.specs.Events.{Event}
 use Rattle.protocol.specs.Fixed.{Fixed}
 use Rattle.protocol.specs.Parts.{Machine}
-use Rattle.protocol.specs.Schedule.{Ascends}
+use Rattle.protocol.specs.Schedule.{AscendByRank}
 use Rattle.protocol_ready.specs.Refusing.{may_refuse}
 use Rattle.ready_list.specs.Order.{at}
 use Rattle.snap_hand.specs.Hands.{Parts, Fits}
@@ -46,18 +46,18 @@ pub record AreRefused (w : Fixed Rest) (h : Parts) (e : Event) (es gone : List E
 pub record IsWithout (gone old new : List Event) : Type 0 where
   pub only : (f : Event) → Contains new f → Contains old f × (Contains gone f → ⊥)
   pub kept : (f : Event) → Contains old f → Contains new f ⊎ Contains gone f
-  pub ascends : Ascends old → Ascends new
+  pub ascends : AscendByRank old → AscendByRank new
 
 -- one was looked at, and put in where it is allowed; nothing else is new
 pub record IsPutIn (w : Fixed Rest) (h : Parts) (e : Event) (old new : List Event) : Type 0 where
   pub only : (f : Event) → Contains new f → Contains old f ⊎ IsAllowedOn w h f
   pub kept : (f : Event) → Contains old f → Contains new f
   pub due : Contains new e ⊎ IsRefusedOn w h e
-  pub ascends : Ascends old → Ascends new
+  pub ascends : AscendByRank old → AscendByRank new
 
 -- some were looked at, one after the other: they are in where they are allowed, and nothing else is new
 pub record IsWith (w : Fixed Rest) (h : Parts) (news old new : List Event) : Type 0 where
   pub only : (f : Event) → Contains new f → Contains old f ⊎ IsAllowedOn w h f
   pub kept : (f : Event) → Contains old f → Contains new f
   pub due : (f : Event) → Contains news f → Contains new f ⊎ IsRefusedOn w h f
-  pub ascends : Ascends old → Ascends new
+  pub ascends : AscendByRank old → AscendByRank new

@@ -7,14 +7,14 @@ use Rattle.protocol.specs.Events.{Event}
 use Rattle.protocol.specs.Fixed.{Fixed}
 use Rattle.protocol.specs.Parts.{Machine}
 use Rattle.protocol.specs.Runs.{IsQuiet}
-use Rattle.protocol.specs.Schedule.{Ascends, IsEnabled}
+use Rattle.protocol.specs.Schedule.{AscendByRank, IsEnabled}
 use Rattle.ready_renewal.specs.Asked.{IsAllowedOn, IsRefusedOn}
 use Rattle.snap_hand.specs.Hands.{Parts, Fits}
 
 -- in order, and maybe with others
 pub record Covers (w : Fixed Rest) (s : Machine Rest) (es : List Event) : Type 0 where
   pub all : (f : Event) → IsAllowed w f s → Contains es f
-  pub ascends : Ascends es
+  pub ascends : AscendByRank es
 
 -- of all allowed events, in order
 pub record IsFirst (w : Fixed Rest) (s : Machine Rest) (e : Event) : Type 0 where

@@ -1,10 +1,10 @@
 -- No two ACTs of a run have one tid.
-use Rattle.std.specs.Prelude.{◌≢◌, refl, ℕ, ◌≤◌, ◌==◌, nat_lt, nat_le, ◌&&◌, Bool, true, false, List, [], ◌∷◌, map}
+use Rattle.std.specs.Prelude.{◌≢◌, refl, ℕ, ◌≤◌, ◌==◌, nat_lt, nat_le, ◌&&◌, List, [], ◌∷◌, map}
 use Rattle.std.specs.List.{AllByRecursion}
 use Rattle.std.proofs.Common.{arith}
 use Rattle.std.proofs.lemmas.Bool.{eq-eqb}
 use Rattle.protocol.specs.Fixed.{Fixed}
-use Rattle.protocol.specs.Numbers.{flat, times, one_if, NumbersDrawnOnce}
+use Rattle.protocol.specs.Numbers.{flat, times, NumbersDrawnOnce}
 use Rattle.protocol.specs.Parts.{Act, Machine}
 use Rattle.protocol_laws.proofs.Lemmas.{at_most_one}
 use Rattle.protocol_records.proofs.recording.FewLists.{count_more}

@@ -2,3 +2,4 @@ pub mod Numbers
 pub mod States
 pub mod Text
 pub mod Outcomes
+pub mod Lines

@@ -5,8 +5,9 @@ use Rattle.std.specs.List.{AllByRecursion, flat_map}
 use Rattle.std.proofs.lemmas.List.{append_assoc, drop_all}
 use Rattle.std.proofs.lemmas.Bool.{eqb-true}
 use Rattle.core_events.specs.declared.events.Event.{Event}
+use Rattle.snap_base.specs.Lines.{lines, onto_line}
 use Rattle.trace_text.specs.Lines.{event_line, IsEvent}
-use Rattle.trace_text.specs.Traces.{lines, onto_line, trace_of, IsTrace, IsFirstNoEvent}
+use Rattle.trace_text.specs.Traces.{trace_of, IsTrace, IsFirstNoEvent}
 use Rattle.trace_text.specs.Reads.{LacksByte}
 use Rattle.trace_text.proofs.Events.{event_one, event_in_line}
 

@@ -1,20 +1,11 @@
 -- A trace: the lines of its events.
-use Rattle.std.specs.Prelude.{◌≡◌, ◌≢◌, ℕ, ◌+◌, ◌==◌, if◌then◌else◌, List, [], ◌∷◌, ◌++◌, map, length, ⊤}
+use Rattle.std.specs.Prelude.{◌≡◌, ◌≢◌, ℕ, ◌+◌, List, [], ◌∷◌, ◌++◌, map, length, ⊤}
 use Rattle.std.specs.List.{AllByRecursion, flat_map}
 use Rattle.core_events.specs.declared.events.Event.{Event}
+use Rattle.snap_base.specs.Lines.{lines}
 use Rattle.trace_text.specs.declared.trace_no.TraceNo.{TraceNo}
 use Rattle.trace_text.specs.declared.trace_no.TraceNo.TheVariants as no
 use Rattle.trace_text.specs.Lines.{event_line, IsEvent}
-
--- a byte in front of the first line, or a line of its own where there is none
-abbrev pub onto_line : ℕ → List (List ℕ) → List (List ℕ)
-onto_line b [] = (b ∷ []) ∷ []
-onto_line b (line ∷ lines) = (b ∷ line) ∷ lines
-
--- A line ends with a line feed; the last one may lack it.
-abbrev pub lines : List ℕ → List (List ℕ)
-lines [] = []
-lines (b ∷ bs) = if b == 10 then [] ∷ lines bs else onto_line b (lines bs)
 
 -- the text that events are printed as, one after the other
 abbrev pub trace_of : List Event → List ℕ

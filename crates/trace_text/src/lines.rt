@@ -3,8 +3,8 @@
 ghost use Rattle.std.specs.Prelude.{◌≡◌, ℕ, ◌<◌, ◌^◌, [], ◌∷◌, ◌++◌, length, Option, Some, IfSome, MatchOption};
 ghost use Rattle.std.specs.Fmt.{decimal};
 ghost use Rattle.core_events.specs.declared.events.Event as event;
+ghost use Rattle.snap_base.specs.Lines.{lines};
 ghost use Rattle.trace_text.specs.Lines.{event_line, numbers_text, IsEvent};
-ghost use Rattle.trace_text.specs.Traces.{lines};
 ghost use Rattle.trace_text.specs.Reads.{LacksByte};
 
 use crate::names::name_of;

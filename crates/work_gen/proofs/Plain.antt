@@ -11,7 +11,8 @@ use Rattle.std.proofs.lemmas.List.Folds.{list_all-append}
 use Rattle.std.proofs.lemmas.List.Splits.{slice_split-cons_no}
 use Rattle.std.proofs.lemmas.Str.{IsUtf8-append, IsUtf8-from_ascii, IsUtf8-nil}
 use Rattle.snap_base.proofs.Booleans.{first_true, second_true, not_false}
-use Rattle.work_text.specs.Lines.{lines, onto_line, text_of, words, says}
+use Rattle.snap_base.specs.Lines.{lines, onto_line}
+use Rattle.work_text.specs.Lines.{text_of, words, says}
 use Rattle.work_text.proofs.TextLines.{lines_step}
 
 -- ASCII, and no line feed

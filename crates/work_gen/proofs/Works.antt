@@ -4,9 +4,10 @@ use Rattle.std.specs.Prelude.{None, Ok}
 use Rattle.std.specs.List.{AllByRecursion, range_with_len}
 use Rattle.std.proofs.lemmas.Fmt.{decimal-digits_of, decimal_digit}
 use Rattle.std.proofs.lemmas.List.FromFn.{length-map-range_with_len}
+use Rattle.snap_base.specs.Lines.{lines}
 use Rattle.snap_base.specs.declared.transactions.Tx.{Tx}
 use Rattle.snap_work.specs.Works.{Work}
-use Rattle.work_text.specs.Lines.{Line, lines, numbered, says, said}
+use Rattle.work_text.specs.Lines.{Line, numbered, says, said}
 use Rattle.work_text.specs.Actors.{Named}
 use Rattle.work_text.specs.Settings.{setting, coordinators, logs, batch, batches, acts, actors}
 use Rattle.work_text.specs.Reads.{Setup, work_with, tail, reads_lines, IsWork}

@@ -1,7 +1,8 @@
 -- Short texts and their first faults.
 use Rattle.std.proofs.Common.{◌≡◌, [], ◌∷◌, Some, Ok, Err, codes, refl}
+use Rattle.snap_base.specs.Lines.{lines}
 use Rattle.snap_work.specs.declared.faults.WorkCause.TheVariants as cause
-use Rattle.work_text.specs.Lines.{lines, numbered, up_to_end}
+use Rattle.work_text.specs.Lines.{numbered, up_to_end}
 use Rattle.work_text.specs.Reads.{reads_lines}
 use Rattle.work_text.specs.Readings.{fault}
 

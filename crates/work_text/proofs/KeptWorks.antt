@@ -4,6 +4,7 @@ use Rattle.std.specs.Prelude.{Option, Some, None, Ok, ℤ, pos, replicate, FitsS
 use Rattle.std.specs.Int.{w64}
 use Rattle.std.specs.List.{AllByRecursion}
 use Rattle.std.proofs.lemmas.List.{length-replicate}
+use Rattle.snap_base.specs.Lines.{lines}
 use Rattle.snap_base.specs.declared.transactions.TheConstants.{FIELDS}
 use Rattle.snap_base.specs.declared.ids.ActorId.{ActorId}
 use Rattle.snap_base.specs.declared.transactions.Kind.{Kind}
@@ -15,7 +16,7 @@ use Rattle.aml_check.specs.declared.limits.TheConstants.{MOST_CALLED_ACTORS}
 use Rattle.aml_check.specs.Closed.{IsClosedProgram}
 use Rattle.aml_check.specs.Transactions.{Declares, IsTransaction}
 use Rattle.snap_work.specs.declared.limits.TheConstants.{MOST_ACTORS, MOST_ACTS, MOST_BATCHES, MOST_COORDINATORS, MOST_IN_A_BATCH, MOST_LOGS, MOST_TRANSACTIONS}
-use Rattle.work_text.specs.Lines.{Line, lines, words, numbered, said, up_to_end}
+use Rattle.work_text.specs.Lines.{Line, words, numbered, said, up_to_end}
 use Rattle.work_text.specs.Readings.{Reading, gives, ◌>>=◌}
 use Rattle.work_text.specs.Settings as setting
 use Rattle.work_text.specs.Actors.{Named, actor, state_with, state_in, states_in}

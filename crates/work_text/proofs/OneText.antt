@@ -14,11 +14,12 @@ use Rattle.aml_resolver.specs.Faults as check
 use Rattle.aml_resolver.specs.Faults.{IsCheckedProgram}
 use Rattle.aml_resolver.specs.Names.{checked_program}
 use Rattle.aml_check.specs.Closed.{IsClosedProgram}
+use Rattle.snap_base.specs.Lines.{lines}
 use Rattle.snap_work.specs.declared.faults.ProgramCause.TheVariants as program_cause
 use Rattle.snap_work.specs.declared.faults.WorkFault.{WorkFault}
 use Rattle.snap_work.specs.declared.faults.WorkCause.{WorkCause}
 use Rattle.snap_work.specs.declared.faults.WorkCause.TheVariants as cause
-use Rattle.work_text.specs.Lines.{Line, lines, words, text_of, numbered, said, up_to_end}
+use Rattle.work_text.specs.Lines.{Line, words, text_of, numbered, said, up_to_end}
 use Rattle.work_text.specs.Readings.{fault, gives, ◌>>=◌}
 use Rattle.work_text.specs.Settings as setting
 use Rattle.snap_work.specs.Works.{Work}

@@ -4,7 +4,7 @@ use Rattle.std.proofs.lemmas.List.{take-append-drop, drop_more, drop_all, take_m
 use Rattle.std.proofs.Math.Seq.{take-length}
 use Rattle.std.specs.List.{AllByRecursion}
 use Rattle.snap_base.proofs.Lists.{all_push}
-use Rattle.work_text.specs.Lines.{lines, onto_line}
+use Rattle.snap_base.specs.Lines.{lines, onto_line}
 
 abbrev pub IsFree : List ℕ → Type 0
 IsFree line = AllByRecursion (λ b. eqb b 10 ≡ false) line

@@ -2,12 +2,13 @@
 use Rattle.std.proofs.Common.{◌≡◌, ℕ, ◌+◌, ◌≤◌, List, length, refl, ap, inl, inr}
 use Rattle.std.specs.Str.{IsUtf8, IsValidUpTo}
 use Rattle.std.specs.List.{count_by}
+use Rattle.snap_base.specs.Lines.{lines}
 use Rattle.snap_work.specs.declared.faults.WorkCause.TheVariants.{NotUtf8}
 use Rattle.std.specs.Prelude.{◌==◌, take, Option, None, Ok, Err, Result}
 use Rattle.snap_base.specs.declared.transactions.State.{State}
 use Rattle.snap_base.specs.declared.transactions.Tx.{Tx}
 use Rattle.aml_tree.specs.Tree.{CheckedMethod}
-use Rattle.work_text.specs.Lines.{Line, lines, numbered}
+use Rattle.work_text.specs.Lines.{Line, numbered}
 use Rattle.work_text.specs.Readings.{IsNo, Is, Reading, gives, ◌>>=◌}
 use Rattle.work_text.specs.Reads.{work_with, tail, line, program_lines, reads_lines, Reads, IsFirstWorkFault}
 use Rattle.snap_work.specs.declared.faults.WorkFault.{WorkFault}

@@ -1,8 +1,9 @@
 -- Only private contracts cite this; the rule is Reads.antt.
 -- The lines that lie ahead of a place in a text.
 use Rattle.std.specs.Prelude.{ℕ, ◌+◌, ◌≤◌, List, length}
+use Rattle.snap_base.specs.Lines.{lines}
 use Rattle.snap_work.specs.declared.limits.TheConstants.{LONGEST_WORK}
-use Rattle.work_text.specs.Lines.{Line, lines, numbered}
+use Rattle.work_text.specs.Lines.{Line, numbered}
 use Rattle.work_text.specs.declared.texts.Line as code_line
 use Rattle.work_text.specs.declared.texts.Cursor.{Cursor}
 

@@ -2,16 +2,7 @@
 use Rattle.std.specs.Prelude.{ℕ, ◌+◌, ◌==◌, Bool, true, false, if◌then◌else◌, List, [], ◌∷◌, ◌++◌, Option, Some, None, codes}
 use Rattle.std.specs.List.{slice_split, flat_map}
 use Rattle.std.specs.Str.{bytes_eq}
-
--- a byte in front of the first line, or a line of its own where there is none
-abbrev pub onto_line : ℕ → List (List ℕ) → List (List ℕ)
-onto_line b [] = (b ∷ []) ∷ []
-onto_line b (line ∷ lines) = (b ∷ line) ∷ lines
-
--- A line ends with a line feed; the last one may lack it.
-abbrev pub lines : List ℕ → List (List ℕ)
-lines [] = []
-lines (b ∷ bs) = if b == 10 then [] ∷ lines bs else onto_line b (lines bs)
+use Rattle.snap_base.specs.Lines.{lines}
 
 -- lines as a text, each with its line feed
 abbrev pub text_of : List (List ℕ) → List ℕ

@@ -2,6 +2,7 @@
 use Rattle.std.specs.Prelude.{◌≡◌, ℕ, ◌+◌, ◌<◌, ◌≤◌, ◌⊎◌, ◌==◌, Bool, false, List, [], ◌∷◌, length, take, codes, Option, Some, None, Ok, Err}
 use Rattle.std.specs.List.{count_by}
 use Rattle.std.specs.Str.{IsUtf8, bytes_eq}
+use Rattle.snap_base.specs.Lines.{lines}
 use Rattle.snap_base.specs.declared.transactions.Tx.{Tx}
 use Rattle.aml_parser.specs.declared.faults.TextFault.{TextFault}
 use Rattle.aml_tree.specs.Tree.{TextMethod, CheckedMethod}
@@ -16,7 +17,7 @@ use Rattle.snap_work.specs.declared.faults.WorkCause.{WorkCause}
 use Rattle.snap_work.specs.declared.faults.WorkCause.TheVariants as cause
 use Rattle.snap_work.specs.declared.faults.WorkFault.{WorkFault}
 use Rattle.snap_work.specs.declared.limits.TheConstants.{LONGEST_WORK}
-use Rattle.work_text.specs.Lines.{Line, lines, text_of, words, numbered, said, next, up_to_end}
+use Rattle.work_text.specs.Lines.{Line, text_of, words, numbered, said, next, up_to_end}
 use Rattle.snap_work.specs.Works.{Work}
 use Rattle.work_text.specs.Readings.{Reading, gives, fails, ◌>>=◌, only, whether}
 use Rattle.work_text.specs.Settings.{setting, coordinators, logs, batch, batches, acts, actors}

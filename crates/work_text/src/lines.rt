@@ -1,7 +1,8 @@
 //! The lines of a text, one after the other.
 
 ghost use Rattle.std.specs.Prelude.{◌≡◌, ◌≢◌, ℕ, ◌+◌, ◌<◌, ◌≤◌, List, ◌++◌, ◌∷◌, [], length, IfSome, take, drop, None, Some, MatchOption, MatchResult, IfOk};
-ghost use Rattle.work_text.specs.Lines.{lines, says, next};
+ghost use Rattle.snap_base.specs.Lines.{lines};
+ghost use Rattle.work_text.specs.Lines.{says, next};
 ghost use Rattle.work_text.specs.Cursors.{line_of, ahead, end_of, IsShort};
 
 use crate::texts::{Cursor, Line};

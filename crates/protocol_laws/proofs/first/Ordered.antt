@@ -12,7 +12,7 @@ use Rattle.protocol.specs.Numbers.{from}
 use Rattle.protocol.specs.Conditions.{refusal}
 use Rattle.protocol.specs.Runs.{IsRun, reached}
 use Rattle.protocol.specs.Candidates.{each, each_two, tids_drawn, bids_drawn, offers, candidates, allowed_candidates}
-use Rattle.protocol.specs.Schedule.{Rank, ranked, rank, is_rank_below, IsBelowEach, Ascends, IsEnabled}
+use Rattle.protocol.specs.Schedule.{Rank, ranked, rank, is_rank_below, IsBelowEach, AscendByRank, IsEnabled}
 use Rattle.protocol_laws.proofs.first.FirstFalse.{allowed_or_refused}
 use Rattle.protocol_laws.proofs.first.Candidates.{allowed_is_candidate}
 use Rattle.protocol_laws.proofs.first.Lists.{all_filter, all_join, all_map, weaker}
@@ -61,22 +61,22 @@ below_all : (r : Rank) (es : List Event) → IsBelowEach r es → AllByRecursion
 below_all r [] h = tt
 below_all r (e ∷ es) h = (h.0, below_all r es h.1)
 
-joined : (es fs : List Event) → Ascends es → Ascends fs → AllByRecursion (λ e. IsBelowEach (rank e) fs) es → Ascends (es ++ fs)
+joined : (es fs : List Event) → AscendByRank es → AscendByRank fs → AllByRecursion (λ e. IsBelowEach (rank e) fs) es → AscendByRank (es ++ fs)
 joined [] fs h g i = g
 joined (e ∷ es) fs h g i = (each_below (rank e) (es ++ fs) (all_join _ es fs (below_all (rank e) es h.0) (below_all (rank e) fs i.0)), joined es fs h.1 g i.1)
 
-pub filtered : (p : Event → Bool) (es : List Event) → Ascends es → Ascends (filter p es)
+pub filtered : (p : Event → Bool) (es : List Event) → AscendByRank es → AscendByRank (filter p es)
 filtered p [] h = tt
 filtered p (e ∷ es) h = by (p e) (filtered p es h.1)
   where
-    by : (b : Bool) → Ascends (filter p es) → Ascends (if b then e ∷ filter p es else filter p es)
+    by : (b : Bool) → AscendByRank (filter p es) → AscendByRank (if b then e ∷ filter p es else filter p es)
     by true g = (each_below (rank e) (filter p es) (all_filter _ p es (below_all (rank e) es h.0)), g)
     by false g = g
 
 -- ---- events of one kind
 
 pub record IsGroup (kind : ℕ) (es : List Event) : Type 0 where
-  pub ascends : Ascends es
+  pub ascends : AscendByRank es
   pub kinds : AllByRecursion (λ e. (rank e).kind ≡ kind) es
 
 alone : (j n m : ℕ) (e : Event) → rank e ≡ ranked j n m → IsGroup j (e ∷ [])
@@ -89,7 +89,7 @@ one_number j kind ns r h = record { ascends = ascend ns h; kinds = all_kinds ns 
     all_kinds [] = tt
     all_kinds (n ∷ ns) = (ap (λ r. r.kind) (r n), all_kinds ns)
 
-    ascend : (ns : List ℕ) → Rises ns → Ascends (map kind ns)
+    ascend : (ns : List ℕ) → Rises ns → AscendByRank (map kind ns)
     ascend [] h = tt
     ascend (n ∷ ns) h = (each_below (rank (kind n)) (map kind ns) (all_map _ _ kind ns (λ m l. rw (r n, r m) (first_below j n m 0 0 l)) h.0), ascend ns h.1)
 
@@ -111,7 +111,7 @@ two_numbers j kind xs ys r h g = record {
   kinds = all_two (λ e. (rank e).kind ≡ j) (λ x. Unit {0}) kind xs ys (λ x y u. ap (λ r. r.kind) (r x y)) (all_any xs);
 }
   where
-    inner : (x : ℕ) (ys : List ℕ) → Rises ys → Ascends (map (kind x) ys)
+    inner : (x : ℕ) (ys : List ℕ) → Rises ys → AscendByRank (map (kind x) ys)
     inner x [] g = tt
     inner x (y ∷ ys) g = (each_below (rank (kind x y)) (map (kind x) ys) (all_map _ _ (kind x) ys (λ z l. rw (r x y, r x z) (second_below j x y z l)) g.0), inner x ys g.1)
 
@@ -122,7 +122,7 @@ two_numbers j kind xs ys r h g = record {
       cross x xs zs l,
     )
 
-    ascend : (xs : List ℕ) → Rises xs → Ascends (each_two kind xs ys)
+    ascend : (xs : List ℕ) → Rises xs → AscendByRank (each_two kind xs ys)
     ascend [] h = tt
     ascend (x ∷ xs) h = joined (map (kind x) ys) (each_two kind xs ys) (inner x ys g) (ascend xs h.1) (cross x xs ys h.0)
 
@@ -138,12 +138,12 @@ from_kind n (es ∷ ess) h = all_join _ es (flat_map (λ es. es) ess)
     (weaker _ _ es (λ e q. omega (arith, q)) h.0.kinds)
     (weaker _ _ (flat_map (λ es. es) ess) (λ e q. omega (arith, q)) (from_kind (n + 1) ess h.1))
 
-graded : (n : ℕ) (ess : List (List Event)) → Graded n ess → Ascends (flat_map (λ es. es) ess)
+graded : (n : ℕ) (ess : List (List Event)) → Graded n ess → AscendByRank (flat_map (λ es. es) ess)
 graded n [] h = tt
 graded n (es ∷ ess) h = joined es (flat_map (λ es. es) ess) h.0.ascends (graded (n + 1) ess h.1)
     (weaker _ _ es (λ e q. each_below (rank e) (flat_map (λ es. es) ess) (weaker _ _ (flat_map (λ es. es) ess) (λ f l. kind_below (rank e) (rank f) (omega (arith, q, l))) (from_kind (n + 1) ess h.1))) h.0.kinds)
 
-pub candidates_ascend : {C : Type 0} (w : Fixed C) (s : Machine C) → Ascends (candidates w s)
+pub candidates_ascend : {C : Type 0} (w : Fixed C) (s : Machine C) → AscendByRank (candidates w s)
 candidates_ascend w s =
     let ks = bids_drawn w s in
     let ts = tids_drawn w s in

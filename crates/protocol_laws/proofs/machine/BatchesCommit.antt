@@ -3,6 +3,7 @@ use Rattle.std.specs.Prelude.{◌≡◌, refl, ℕ, ◌+◌, ◌<◌, ◌==◌, 
 use Rattle.std.specs.List.{AllByRecursion, list_any, list_all}
 use Rattle.std.proofs.Common.{arith, sym, ap, subst, inl, inr, ◌∙◌}
 use Rattle.std.proofs.lemmas.Bool.{eqb-true, leb-true, and_parts, or_cases, or_parts, or_left, or_right, true≢false, cases_Bool, false_from_ne_true}
+use Rattle.protocol.specs.Cutting.{Ascends}
 use Rattle.snap_base.proofs.Booleans.{not_false}
 use Rattle.protocol.specs.Fixed.{Fixed, Next, Go, Ended}
 use Rattle.protocol.specs.Parts.{Cascade, Who, OfBatch, OfAct, Batch, Pact, Committing, Settled, Declared, SubBatch, Entry, BatchEntry, ActEntry, Outcome, Machine}
@@ -17,7 +18,7 @@ use Rattle.protocol.specs.History.{History, Slice, Ran, Stands, Gone, slices_of,
 use Rattle.protocol_laws.specs.Told.{PactsAscend}
 use Rattle.protocol_laws.specs.Tracks.{Key, key_of, keys_in, is_key_among}
 use Rattle.protocol_laws.specs.Turns.{Rising, IsPast, Turns}
-use Rattle.protocol_laws.specs.Places.{Ascends, FitsCell}
+use Rattle.protocol_laws.specs.Places.{FitsCell}
 use Rattle.protocol_laws.specs.Commits.{is_kept, KeptAhead}
 use Rattle.protocol_laws.specs.Marks.{is_done, IsAbortedOrDone, Marked, Known}
 use Rattle.protocol_laws.specs.FromDesk.{is_declared, is_pact_of, MessageOf, EntryOf, CompleteInOrder, FromDesk}

@@ -3,6 +3,7 @@ use Rattle.std.specs.Prelude.{◌≡◌, refl, ℕ, zero, suc, ◌<◌, ◌%◌,
 use Rattle.std.specs.List.{AllByRecursion, list_any, list_all}
 use Rattle.std.proofs.Common.{arith, sym, ap, subst, inl, inr, ◌∙◌}
 use Rattle.std.proofs.lemmas.Bool.{eqb-true, and_parts, or_cases, or_left, or_right, true≢false, cases_Bool, false_from_ne_true}
+use Rattle.protocol.specs.Cutting.{Ascends}
 use Rattle.snap_base.proofs.Booleans.{or_false}
 use Rattle.protocol.specs.Fixed.{Fixed, Next, Go, Ended}
 use Rattle.protocol.specs.Records.{LogRecord, is_complete}
@@ -17,7 +18,7 @@ use Rattle.protocol.specs.OnDesk as desk
 use Rattle.protocol.specs.OnCell as cell
 use Rattle.protocol.specs.History.{History, Ran, Stands, Gone, grown, with_at, not_run, ran_in, completed, left_for_good, without_standing, long_staying, asks, kept_act, batches_in, batch_in, is_traceless}
 use Rattle.protocol_laws.specs.Tracks.{key_of, keys_in, is_key_among}
-use Rattle.protocol_laws.specs.Places.{Ascends, FitsCell, Places}
+use Rattle.protocol_laws.specs.Places.{FitsCell, Places}
 use Rattle.protocol_laws.specs.Commits.{is_kept}
 use Rattle.protocol_laws.specs.Marks.{is_done_as, is_done, IsAbortedOrDone, Marks, Recorded, Marked, Known}
 use Rattle.protocol_laws.proofs.first.SettlingKeys as keys

@@ -4,12 +4,13 @@ use Rattle.std.specs.List.{AllByRecursion}
 use Rattle.std.proofs.Common.{arith, sym, subst, inl, inr, ◌∙◌}
 use Rattle.std.proofs.lemmas.List.{append-nil, append_assoc}
 use Rattle.std.proofs.lemmas.Bool.{eqb-true, leb-true, ltb-true, le-leb, lt-ltb, and_parts, and_from, or_cases, or_from, true≢false, cases_Bool, cases_lt, false_from_ne_true, lt-leb, and_left}
+use Rattle.protocol.specs.Cutting.{Ascends}
 use Rattle.protocol.specs.Parts.{Cascade, Who, OfBatch, OfAct}
 use Rattle.protocol.specs.Words.{covers, is_aborted, epoch_of, is_who}
 use Rattle.protocol.specs.OnCell.{is_cut}
 use Rattle.protocol.specs.History.{Slice, Ran, Stands, Gone, batches_in, batch_in, not_run, ran_in, completed, left_for_good, without_standing, long_staying}
 use Rattle.protocol_laws.specs.Tracks.{keys_in, is_key_among, NoneGone, CutIsEnd}
-use Rattle.protocol_laws.specs.Places.{Ascends, has_gone, IsFirm, FirmUpToGone, FirmUpTo, FitsCell, Places}
+use Rattle.protocol_laws.specs.Places.{has_gone, IsFirm, FirmUpToGone, FirmUpTo, FitsCell, Places}
 use Rattle.protocol_laws.proofs.first.EpochsKept as epochs
 use Rattle.protocol_laws.proofs.first.SettlingKeys as keys
 use Rattle.protocol_laws.proofs.first.Times

@@ -4,6 +4,7 @@ use Rattle.std.specs.List.{AllByRecursion, list_any, list_all}
 use Rattle.std.proofs.Common.{arith, sym, ap, subst, inl, inr, ◌∙◌}
 use Rattle.std.proofs.lemmas.List.{append-nil}
 use Rattle.std.proofs.lemmas.Bool.{true≢false, or_cases, or_left, or_right, or_parts, and_parts, eqb-true, eq-eqb, cases_Bool, false_from_ne_true, not-true}
+use Rattle.protocol.specs.Cutting.{Ascends}
 use Rattle.snap_base.specs.declared.transactions.Tx.{Tx}
 use Rattle.snap_base.specs.declared.transactions.State.{State}
 use Rattle.protocol_laws.proofs.machine.ActsGrow.{acts_grow, grown_holds}
@@ -21,7 +22,7 @@ use Rattle.protocol.specs.OnBook as book
 use Rattle.protocol.specs.OnCell as cell
 use Rattle.protocol.specs.History.{History, Ran, Stands, Gone, grown, with_at, not_run, completed, left_for_good, without_standing, asks, batches_in, batch_in, is_traceless, is_reader_act}
 use Rattle.protocol_laws.specs.Tracks.{Key, key_of, keys_in, is_key_among, Differ, InOrder, has_read}
-use Rattle.protocol_laws.specs.Places.{Ascends, FitsCell}
+use Rattle.protocol_laws.specs.Places.{FitsCell}
 use Rattle.protocol_laws.specs.Commits.{is_kept, KeptFront, reads_who}
 use Rattle.protocol_laws.specs.Marks.{is_done, IsAbortedOrDone, Recorded}
 use Rattle.protocol_records.specs.Logged.{logged_at, has_joined, Prepared, ActsSure, ActsStand}

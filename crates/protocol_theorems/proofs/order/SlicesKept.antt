@@ -4,6 +4,7 @@ use Rattle.std.specs.List.{AllByRecursion, list_any}
 use Rattle.std.proofs.Common.{arith, sym, ap, subst, inl, inr, ◌∙◌}
 use Rattle.std.proofs.lemmas.List.{append-nil}
 use Rattle.std.proofs.lemmas.Bool.{eqb-true, eqb-false, eq-eqb, ne_eqb, and_parts, or_cases, or_parts, true≢false, false_from_ne_true, not-true}
+use Rattle.protocol.specs.Cutting.{Ascends}
 use Rattle.protocol_laws.proofs.machine.ReadersSee.{ReadBy, reads_at, not_read}
 use Rattle.protocol_laws.proofs.machine.ReadersKept.{LockOf, Locks, reader_of}
 use Rattle.protocol_laws.proofs.machine.ActsGrow.{acts_grow, grown_holds}
@@ -23,7 +24,7 @@ use Rattle.protocol.specs.OnCell.{is_cut, is_entry_among}
 use Rattle.protocol.specs.History.{History, Trail, Step, Slice, Ran, Stands, Gone, grown, with_at, begun, gone_on, not_run, ran_in, completed, left_for_good, without_standing, long_staying, asks, slices_of, batches_in, ran_on, read_on, is_traceless}
 use Rattle.protocol_laws.specs.Tracks.{key_of, keys_in, is_key_among, has_read}
 use Rattle.protocol_laws.specs.Trails.{on_actor}
-use Rattle.protocol_laws.specs.Places.{FitsCell, Ascends}
+use Rattle.protocol_laws.specs.Places.{FitsCell}
 use Rattle.protocol_laws.specs.FromDesk.{FromDesk}
 use Rattle.protocol_laws.proofs.first.SettlingKept as settling
 use Rattle.protocol_laws.proofs.machine.TrackLists

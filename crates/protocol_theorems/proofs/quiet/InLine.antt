@@ -5,6 +5,7 @@ use Rattle.std.specs.List.{AllByRecursion, list_any}
 use Rattle.std.proofs.Common.{arith, sym, ap, subst, inl, inr, ◌∙◌}
 use Rattle.std.proofs.lemmas.List.{append-nil}
 use Rattle.std.proofs.lemmas.Bool.{true≢false, eqb-true, eq-eqb, lt-ltb, le-leb, or_cases, or_left, or_right, or_parts, and_parts, cases_lt, false_from_ne_true}
+use Rattle.protocol.specs.Cutting.{Ascends}
 use Rattle.protocol.specs.Rivals.{Lock}
 use Rattle.protocol.specs.Fixed.{Fixed}
 use Rattle.protocol.specs.Parts.{Batch, Declared, Cascade, Who, OfBatch, OfAct, SubBatch, Entry, BatchEntry, ActEntry, Cell, Machine}
@@ -16,7 +17,6 @@ use Rattle.protocol.specs.OnBook as book
 use Rattle.protocol.specs.OnCell as cell
 use Rattle.protocol.specs.History.{History, Slice, Ran, Stands, Gone, grown, not_run, ran_in, completed, left_for_good, without_standing, long_staying, asks, batches_in, batch_in, behind_too, with_at, is_traceless}
 use Rattle.protocol_laws.specs.Tracks.{Key, keys_in, is_key_among}
-use Rattle.protocol_laws.specs.Places.{Ascends}
 use Rattle.protocol_laws.specs.Marks.{is_done}
 use Rattle.protocol_laws.specs.FromDesk.{is_declared}
 use Rattle.protocol_laws.specs.Befores.{gone_in}

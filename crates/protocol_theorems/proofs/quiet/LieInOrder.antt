@@ -3,6 +3,7 @@ use Rattle.std.specs.Prelude.{◌≡◌, refl, ℕ, zero, suc, ◌+◌, ◌<◌,
 use Rattle.std.specs.List.{AllByRecursion}
 use Rattle.std.proofs.Common.{arith, sym, ap, subst, inl, inr, ◌∙◌}
 use Rattle.std.proofs.lemmas.Bool.{true≢false, and_from, or_parts, or_right, or_from, leb-true, ltb-true, le-leb, lt-leb, lt-ltb, le-ltb, cases_lt, false_from_ne_true}
+use Rattle.protocol.specs.Cutting.{Ascends, HaveRunInOrder}
 use Rattle.snap_base.specs.declared.transactions.State.{State}
 use Rattle.snap_base.specs.declared.transactions.Tx.{Tx}
 use Rattle.protocol.specs.Fixed.{Fixed, base}
@@ -20,9 +21,8 @@ use Rattle.protocol.specs.Settling.{CascadesAscend, BatchesSettleInOrder}
 use Rattle.protocol.specs.Epochs.{CellsAgree}
 use Rattle.protocol_laws.specs.Tracks.{Key, key_of, keys_in, is_key_among, Differ, first_image, images_in, InOrder}
 use Rattle.protocol_laws.specs.Turns.{Turns}
-use Rattle.protocol_laws.specs.Places.{Ascends}
 use Rattle.protocol_laws.specs.Highs.{AllDoomed, TakenAlong, doomed_at}
-use Rattle.protocol_theorems.specs.OnActors.{ReadersSee, HaveRunInOrder, AreTakenAlong, LiesInOrder, AllLieInOrder}
+use Rattle.protocol_theorems.specs.OnActors.{ReadersSee, AreTakenAlong, LiesInOrder, AllLieInOrder}
 use Rattle.protocol_laws.proofs.first.Lists.{all_join, both_all, join_nil, weaker}
 use Rattle.protocol_laws.proofs.first.CellEpochs as cells
 use Rattle.protocol_laws.proofs.first.SettlingKept as settling

@@ -4,6 +4,7 @@ use Rattle.std.specs.List.{AllByRecursion}
 use Rattle.std.proofs.Common.{arith, sym, ap, subst, ◌∙◌}
 use Rattle.std.proofs.lemmas.List.{append-nil}
 use Rattle.std.proofs.lemmas.Bool.{ltb-true, true≢false, not-true}
+use Rattle.protocol.specs.Cutting.{Ascends}
 use Rattle.snap_base.specs.declared.transactions.State.{State}
 use Rattle.protocol.specs.Rivals.{Lock}
 use Rattle.protocol.specs.Fixed.{Fixed, base}
@@ -18,7 +19,7 @@ use Rattle.protocol.specs.OnBook as book
 use Rattle.protocol.specs.OnCell as cell
 use Rattle.protocol.specs.History.{Ran, Stands, long_staying, batches_in}
 use Rattle.protocol_laws.specs.Tracks.{key_of, keys_in, is_key_among, Differ}
-use Rattle.protocol_laws.specs.Places.{Ascends, has_gone, FirmUpToGone, Places}
+use Rattle.protocol_laws.specs.Places.{has_gone, FirmUpToGone, Places}
 use Rattle.protocol_theorems.specs.Quiet.{BatchesRise}
 use Rattle.protocol_laws.specs.FromDesk.{FromDesk}
 use Rattle.protocol_laws.proofs.first.EpochsKept as epochs

@@ -5,6 +5,7 @@ use Rattle.std.specs.List.{AllByRecursion, list_any}
 use Rattle.std.proofs.Common.{arith, sym, ap, subst, inl, inr, ◌∙◌}
 use Rattle.std.proofs.lemmas.List.{get_or-set_same, get_or-set_other}
 use Rattle.std.proofs.lemmas.Bool.{eqb-true, eqb-false, eq-eqb, ne_eqb, and_parts, true≢false, cases_Bool, cases_lt}
+use Rattle.protocol.specs.Cutting.{Ascends}
 use Rattle.protocol.specs.Rivals.{Lock}
 use Rattle.protocol.specs.Fixed.{Fixed, Next, Go, Ended}
 use Rattle.protocol.specs.Parts.{Ring, SubBatch, Cascade, Declared, Batch, Committing, Settled, Entry, BatchEntry, ActEntry, Outcome, Cell, Machine}
@@ -17,7 +18,7 @@ use Rattle.protocol.specs.OnBook as book
 use Rattle.protocol.specs.OnRing as ring
 use Rattle.protocol.specs.OnDesk as desk
 use Rattle.protocol.specs.OnCell as cell
-use Rattle.protocol_laws.specs.Places.{Ascends, FitsCell}
+use Rattle.protocol_laws.specs.Places.{FitsCell}
 use Rattle.protocol_laws.proofs.first.Times
 use Rattle.protocol_laws.proofs.first.EpochsKept as epochs
 use Rattle.protocol_laws.proofs.first.SettlingKeys as keys

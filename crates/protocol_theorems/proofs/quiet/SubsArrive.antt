@@ -4,6 +4,7 @@ use Rattle.std.specs.Prelude.{◌≡◌, refl, ℕ, zero, suc, ◌+◌, ◌<◌,
 use Rattle.std.specs.List.{AllByRecursion, list_any}
 use Rattle.std.proofs.Common.{arith, sym, ap, subst, inl, inr, ◌∙◌}
 use Rattle.std.proofs.lemmas.Bool.{eqb-true, eq-eqb, ne_eqb, and_parts, or_cases, true≢false, not-true, cases_lt}
+use Rattle.protocol.specs.Cutting.{Ascends}
 use Rattle.snap_base.proofs.Lists.{each_found}
 use Rattle.protocol.specs.Fixed.{Fixed}
 use Rattle.protocol.specs.Records.{LogRecord, ActDone, is_complete}
@@ -17,7 +18,7 @@ use Rattle.protocol.specs.Runs.{opening}
 use Rattle.protocol.specs.OnBook as book
 use Rattle.protocol.specs.OnDesk as desk
 use Rattle.protocol.specs.OnCell as cell
-use Rattle.protocol_laws.specs.Places.{Ascends, FitsCell}
+use Rattle.protocol_laws.specs.Places.{FitsCell}
 use Rattle.protocol_laws.proofs.first.Times
 use Rattle.protocol_laws.proofs.first.EpochsKept as epochs
 use Rattle.protocol_laws.proofs.first.SettlingKept as settling

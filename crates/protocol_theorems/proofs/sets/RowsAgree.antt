@@ -3,6 +3,7 @@ use Rattle.std.specs.Prelude.{◌≡◌, refl, ℕ, ◌-◌, ◌<◌, ◌≤◌,
 use Rattle.std.specs.List.{AllByRecursion, list_all}
 use Rattle.std.proofs.Common.{arith, sym, ap, subst, inl, inr, ◌∙◌}
 use Rattle.std.proofs.lemmas.Bool.{eqb-true, eq-eqb, leb-true, le-leb, ltb-true, lt-ltb, and_parts, and_from, or_cases, not-true, true≢false, false_from_ne_true, cases_lt}
+use Rattle.protocol.specs.Cutting.{Ascends}
 use Rattle.snap_base.specs.declared.transactions.State.{State}
 use Rattle.snap_base.specs.declared.transactions.Tx.{Tx}
 use Rattle.snap_base.specs.declared.verdicts.Verdict.{Verdict}
@@ -26,7 +27,7 @@ use Rattle.protocol.specs.Runs.{IsRun, reached}
 use Rattle.protocol.specs.History.{Ran, Stands, Gone, Slice, History, history}
 use Rattle.protocol_laws.specs.Tracks.{key_of, keys_in, is_key_among, first_image, images_in}
 use Rattle.protocol_laws.specs.Highs.{doomed_at}
-use Rattle.protocol_laws.specs.Places.{Ascends, FitsCell}
+use Rattle.protocol_laws.specs.Places.{FitsCell}
 use Rattle.protocol_laws.specs.Told.{PactsAscend}
 use Rattle.protocol_laws.proofs.first.Lists.{all_join, all_of, weaker}
 use Rattle.protocol_laws.proofs.machine.Good.{Given}

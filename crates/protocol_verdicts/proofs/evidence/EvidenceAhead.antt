@@ -3,6 +3,7 @@ use Rattle.std.specs.Prelude.{◌≡◌, refl, ℕ, ◌+◌, ◌<◌, ◌==◌, 
 use Rattle.std.specs.List.{AllByRecursion}
 use Rattle.std.proofs.Common.{arith, sym, subst, ◌∙◌}
 use Rattle.std.proofs.lemmas.Bool.{eqb-true, true≢false, false_from_ne_true}
+use Rattle.protocol.specs.Cutting.{Ascends}
 use Rattle.snap_base.specs.declared.transactions.State.{State}
 use Rattle.protocol.specs.Parts.{Cascade, Who, OfBatch, OfAct, Batch, Pact}
 use Rattle.protocol.specs.Words.{is_among, is_value, is_aborted, is_who}
@@ -10,7 +11,7 @@ use Rattle.protocol.specs.History.{History, Slice, Ran, Stands, Gone, slices_of,
 use Rattle.protocol_laws.specs.Told.{PactsAscend}
 use Rattle.protocol_laws.specs.Tracks.{keys_in, is_key_among, slices_in, InOrder, Linked}
 use Rattle.protocol_laws.specs.Turns.{Rising}
-use Rattle.protocol_laws.specs.Places.{Ascends, FitsCell}
+use Rattle.protocol_laws.specs.Places.{FitsCell}
 use Rattle.protocol_laws.specs.Commits.{is_kept, KeptAhead, StatesLink, left_of}
 use Rattle.protocol_laws.specs.FromDesk.{is_declared}
 use Rattle.protocol_laws.proofs.machine.PlaceLists

@@ -1,5 +1,5 @@
 use Rattle.std.proofs.Common.{ap, ◌∙◌}
-use Rattle.trace_text.specs.Traces.{lines}
+use Rattle.snap_base.specs.Lines.{lines}
 use Rattle.trace_text.proofs.Traces.{lines_front, last_line}
 use Rattle.trace_text.proofs.lines.next_line.Goals as goal
 

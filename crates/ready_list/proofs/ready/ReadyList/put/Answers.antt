@@ -1,7 +1,7 @@
 use Rattle.std.proofs.Common.{◌≡◌, sym, ap, subst, ◌∙◌, map}
 use Rattle.std.specs.List.{insert}
 use Rattle.core_events.specs.Meant.{event_meant}
-use Rattle.protocol.specs.Schedule.{Ascends}
+use Rattle.protocol.specs.Schedule.{AscendByRank}
 use Rattle.ready_list.proofs.Gaps.{mapped_insert, put_where_there, put_where_new}
 use Rattle.ready_list.proofs.ready.ReadyList.put.Goals as goal
 
@@ -16,7 +16,7 @@ returns-then-not-is_at-clause-events c =
 pub invariant_of-self : goal.invariant_of-self
 invariant_of-self c =
     let v : map event_meant c.self.inside.events.items ≡ c.args.self.now.events = ap (λ r. r.events) c.self.view_is in
-    subst Ascends (sym (returns-then-not-is_at-clause-events c)) (c.events_stay_in_order.ensures.put (event_meant c.args.e) c.args.self.now.events (subst Ascends v c.self.invariant))
+    subst AscendByRank (sym (returns-then-not-is_at-clause-events c)) (c.events_stay_in_order.ensures.put (event_meant c.args.e) c.args.self.now.events (subst AscendByRank v c.self.invariant))
 
 pub returns-else-not-is_at-clause-events : goal.returns-else-not-is_at-clause-events
 returns-else-not-is_at-clause-events c = put_where_there c.args.self.now.events (event_meant c.args.e) c.gap-at.result c.ranks_are_in_order.ensures.through c.ranks_are_in_order.ensures.apart c.gap-at.ensures (sym c.is_at.ensures ∙ c.if-not-is_at.false)
