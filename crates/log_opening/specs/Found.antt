@@ -102,8 +102,8 @@ AreOpenedInPart count before after = (n : ℕ) × (n ≤ count) × devices.AreOp
 
 -- one of the first devices, so many, was not opened, for a cause that is told so
 abbrev pub IsStoppedBelow : ℕ → List devices.Device → List devices.Device → LogsNo → Type 0
-IsStoppedBelow count before after no =
-    (log : ℕ) × (why : OpenNo) × (log < count) × IsStoppedAt log before after why × (no ≡ no_of_opening log why)
+IsStoppedBelow count before after answer =
+    (log : ℕ) × (why : OpenNo) × (log < count) × IsStoppedAt log before after why × (answer ≡ no_of_opening log why)
 
 -- Not so many devices were opened, and why: there was no memory behind the opening of one of them, or one was not opened.
 pub record IsHalted (count : ℕ) (before after : List devices.Device) (no : LogsNo) : Type 0 where
