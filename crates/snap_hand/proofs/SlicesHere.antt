@@ -1,15 +1,14 @@
 -- The slice of a program's code, as the closure of a hand runs it.
-use Rattle.std.proofs.Common.{◌≡◌, ℕ, Bool, true, false, not, ◌==◌, if◌then◌else◌, Some, None, List, [], ◌∷◌, length, slice_get, slice_set, refl, sym, ap, subst, ◌∙◌}
-use Rattle.std.specs.Prelude.{find, IsTrue, ◌↔◌}
+use Rattle.std.proofs.Common.{◌≡◌, ℕ, Bool, true, false, ◌==◌, if◌then◌else◌, Some, None, List, [], ◌∷◌, length, slice_get, slice_set, sym, ap, subst, ◌∙◌}
+use Rattle.std.specs.Prelude.{find}
 use Rattle.std.specs.List.{AllByRecursion}
-use Rattle.std.proofs.lemmas.Bool.{true≢false}
 use Rattle.std.proofs.lemmas.Option.{get_or_from_slice_get}
 use Rattle.snap_base.specs.declared.transactions.State.{State}
 use Rattle.aml_slice.specs.aml_tree.Tree.{CheckedMethod}
 use Rattle.aml_check.specs.Checked.{methods_of}
-use Rattle.aml_slice.specs.Controls.{Rest, IsRest, RestsOn}
+use Rattle.aml_slice.specs.Controls.{Rest, IsRest}
 use Rattle.core_rows.specs.OnRuns.{HasRun}
-use Rattle.machine_laws.specs.MethodCode.{method_code, rests_on}
+use Rattle.machine_laws.specs.MethodCode.{method_code}
 use Rattle.machine_laws.specs.Controls.{MayRunOn, ControlsMayRun}
 use Rattle.machine_laws.specs.Programs.{AfterEveryRunOf}
 use Rattle.protocol.specs.Effects.{cell_at, no_cell}
@@ -39,16 +38,6 @@ waits_may_run t s tid a c x is law run there waits =
     let P : Waiting Rest → Type 0 = λ y. MayRunOn p (fixed_of t) a y.control in
     let all : AllByRecursion P (cell_at s a).inbox = subst (λ z. AllByRecursion P (cell_at z a).inbox) (sym run.is_reached) ((law (text_of t) run.events is run.run).inboxes a) in
     (found P (λ y. y.tid == tid) c.inbox x (subst (λ z. AllByRecursion P z.inbox) (get_or_from_slice_get s.cells a c no_cell there) all) waits).0
-
--- what a test tells, said the other way
-pub through_told : (b : Bool) (c : Rest) (a : ℕ) → (IsTrue b ↔ RestsOn c a) → ((rests_on c a ≡ true) ↔ RestsOn c a) → not (rests_on c a) ≡ not b
-through_told b c a told law = by (rests_on c a) b refl refl
-  where
-    by : (x y : Bool) → rests_on c a ≡ x → b ≡ y → not x ≡ not y
-    by true true e f = refl
-    by true false e f = absurd (true≢false (sym (told.1 (law.0 e)) ∙ f))
-    by false true e f = absurd (true≢false (sym (law.1 (told.0 f)) ∙ e))
-    by false false e f = refl
 
 -- a slice over so many actors, at the state where it ran
 pub sliced_so : (p : List CheckedMethod) (n m a : ℕ) (control : Rest) (now old left : State) (next : Next Rest) (through : Bool) → n ≡ m → now ≡ old
