@@ -1,6 +1,8 @@
-use Rattle.std.proofs.Common.{◌<◌, ◌∙◌, Err, ap, length, subst, sym, arith}
+use Rattle.std.proofs.Common.{◌≡◌, ◌<◌, ◌∙◌, ℕ, Err, Some, ap, length, subst, sym, arith}
+use Rattle.std.specs.Prelude.{slice_set}
 use Rattle.protocol.specs.Events.{Sync, log}
 use Rattle.crew_parts.specs.run_effects.RunsOf.{RunsOf}
+use Rattle.turn_table.specs.Places.{at}
 use Rattle.snap_hand.specs.Hands.{Parts, Fits, Has}
 use Rattle.snap_hand.specs.Tables.{fixed_of}
 use Rattle.crew_grip.specs.Acted.{IsOuter}
@@ -37,7 +39,7 @@ append_at-requires g c =
     let x = log_held w now.held c.args.self.now (log c.args.l) _ now.grip now.just in (
       x.0.beside,
       (
-        x.1.1,
+        subst (λ (p : ℕ). at c.args.self.now.besides p ≡ Some x.0.beside) (sym c.part_of_log.ensures) x.1.1,
         may_append_to w laws runs start now.held c.args.self.now c.args.l within c.requires.crew.begins now.stands now.grip now.just c.requires.sound c.as_slice.result.now
             (λ s fits. c.as_slice.ensures ∙ c.in-Ok.ensures s (subst (λ (g : GripState). Fits g.hand s) (sym c.self.view_is) fits)) x.0 x.1.0 x.1.1,
       ),
@@ -52,9 +54,11 @@ returns-in-Ok-append_at g c =
     let within : c.args.l < w.text.logs = sync_within w c.args.l start now.held c.args.self.now runs (λ s. (c.allowed_or_refused.ensures w (Sync c.args.l) s).0) now.stands now.grip c.requires.allowed in
     let laws : Drives = record { same = c.appends_drive.ensures.nothing; group = c.appends_drive.ensures.group; fault = c.appends_drive.ensures.fault; pieces = c.appends_drive.ensures.pieces } in
     let x = log_held w now.held c.args.self.now (log c.args.l) _ now.grip now.just in
-    let b = c.in-Ok-append_at.ensures x.0.beside x.1.1 in
+    let b = c.in-Ok-append_at.ensures x.0.beside (subst (λ (p : ℕ). at c.args.self.now.besides p ≡ Some x.0.beside) (sym c.part_of_log.ensures) x.1.1) in
+    let made : c.append_at.new.self ≡ record c.args.self.now { besides = slice_set c.args.self.now.besides (log c.args.l) (Some b.0) } =
+    subst (λ (p : ℕ). c.append_at.new.self ≡ record c.args.self.now { besides = slice_set c.args.self.now.besides p (Some b.0) }) c.part_of_log.ensures b.1.1 in
     appended_out w laws runs start now.held c.args.self.now c.args.l within c.requires.crew.begins now.stands now.grip now.just c.requires.sound c.as_slice.result.now
-    (λ s fits. c.as_slice.ensures ∙ c.in-Ok.ensures s (subst (λ (g : GripState). Fits g.hand s) (sym c.self.view_is) fits)) x.0 b.0 c.append_at.new.self x.1.0 x.1.1 b.1.0 b.1.1
+    (λ s fits. c.as_slice.ensures ∙ c.in-Ok.ensures s (subst (λ (g : GripState). Fits g.hand s) (sym c.self.view_is) fits)) x.0 b.0 c.append_at.new.self x.1.0 x.1.1 b.1.0 made
 
 pub returns : goal.returns
 returns g c =
@@ -65,7 +69,9 @@ returns g c =
     let within : c.args.l < w.text.logs = sync_within w c.args.l start now.held c.args.self.now runs (λ s. (c.allowed_or_refused.ensures w (Sync c.args.l) s).0) now.stands now.grip c.requires.allowed in
     let laws : Drives = record { same = c.appends_drive.ensures.nothing; group = c.appends_drive.ensures.group; fault = c.appends_drive.ensures.fault; pieces = c.appends_drive.ensures.pieces } in
     let x = log_held w now.held c.args.self.now (log c.args.l) _ now.grip now.just in
-    let b = c.in-Err.ensures x.0.beside x.1.1 in
+    let b = c.in-Err.ensures x.0.beside (subst (λ (p : ℕ). at c.args.self.now.besides p ≡ Some x.0.beside) (sym c.part_of_log.ensures) x.1.1) in
+    let made : c.append_at.new.self ≡ record c.args.self.now { besides = slice_set c.args.self.now.besides (log c.args.l) (Some b.0) } =
+    subst (λ (p : ℕ). c.append_at.new.self ≡ record c.args.self.now { besides = slice_set c.args.self.now.besides p (Some b.0) }) c.part_of_log.ensures b.1.1 in
     subst (λ (y : NotDone). IsOuter w (Sync c.args.l) c.args.self.now c.append_at.new.self (Err y)) (sym c.why_of.ensures)
     (not_appended w laws runs start now.held c.args.self.now c.args.l within c.requires.crew.begins now.stands now.grip now.just c.requires.sound c.as_slice.result.now
-    (λ s fits. c.as_slice.ensures ∙ c.in-Ok.ensures s (subst (λ (g : GripState). Fits g.hand s) (sym c.self.view_is) fits)) c.in-Err.no x.0 b.0 c.append_at.new.self x.1.0 x.1.1 b.1.0 b.1.1)
+    (λ s fits. c.as_slice.ensures ∙ c.in-Ok.ensures s (subst (λ (g : GripState). Fits g.hand s) (sym c.self.view_is) fits)) c.in-Err.no x.0 b.0 c.append_at.new.self x.1.0 x.1.1 b.1.0 made)
