@@ -6,4 +6,4 @@ use Rattle.footprint_rows.proofs.steps.state_on.Goals as goal
 pub state-requires-clause-cell : goal.state-requires-clause-cell
 state-requires-clause-cell c =
     subst (λ n. Has c.args.hand.now (4 + n + c.args.a.0)) (sym c.requires.logs)
-    (has_it c.args.hand.now (4 + c.args.tables.now.work.logs + c.args.a.0) c.has.result c.has.ensures c.if-not-has.false)
+    (subst (Has c.args.hand.now) c.part_of_cell.ensures (has_it c.args.hand.now c.part_of_cell.result c.has.result c.has.ensures c.if-not-has.false))
