@@ -1,0 +1,9 @@
+pub mod Seen
+pub mod Happenings
+pub mod Orders
+pub mod Papers
+pub mod Clauses
+pub mod Audited
+pub mod Serial
+pub mod Reports
+pub mod Beside
