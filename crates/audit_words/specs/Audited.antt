@@ -19,6 +19,7 @@ on_ring w (Form k) r = (k == r.next_bid) ∷ not (lacks_pacts r) ∷ []
 on_ring w (Admit t) r = (t == r.next_tid) ∷ not (lacks_acts r) ∷ []
 on_ring w _ r = []
 
+-- each event does, where the ones before it leave the ring
 abbrev pub EachMeets : Text → List Event → Ring → Type 0
 EachMeets w [] r = ⊤
 EachMeets w (e ∷ es) r = AllTrue (on_ring w e r) × EachMeets w es (ring_after w e r)
@@ -40,6 +41,7 @@ pub record IsFirstNotMet (w : Text) (es : List Event) (at : ℕ) : Type 0 where
 
 -- ---- the others: lines
 
+-- P holds of each line, beside the lines before it
 abbrev pub EachLine : (List Line → Line → Type 0) → List Line → List Line → Type 0
 EachLine P front [] = ⊤
 EachLine P front (l ∷ ls) = P front l × EachLine P (front ++ l ∷ []) ls
@@ -70,6 +72,7 @@ IsShapeOff txs actors settled ls at =
 abbrev pub ShapeOf : (ℕ → ℕ → ℕ → List Line → Type 0) → Text → Seen → List Line → Type 0
 ShapeOf P w s ls = P (length w.txs) (length w.opening.states) (length s.settled) ls
 
+-- The papers of a run are in order: a text with its language, its events, and the lines of its report.
 pub record Audited (p : Language) (w : Text) (es : List Event) (ls : List Line) : Type 0 where
   -- transactions are submitted, formed and admitted as the coordinators do it
   pub numbered : EachMeets w es (first_ring w)
@@ -88,6 +91,7 @@ pub record Audited (p : Language) (w : Text) (es : List Event) (ls : List Line) 
 abbrev pub OrBehind : Type 0 → (ℕ → Type 0) → ℕ → (ℕ → ℕ → Type 0) → ℕ → ℕ → Type 0
 OrBehind Holds Off number Behind clause at = ((clause ≡ number) × Off at) ⊎ (Holds × Behind clause at)
 
+-- such a clause on lines
 abbrev pub LinesOff : (List Line → Line → Type 0) → List Line → ℕ → (ℕ → ℕ → Type 0) → ℕ → ℕ → Type 0
 LinesOff P ls = OrBehind (EachLine P [] ls) (IsFirstOff P ls)
 

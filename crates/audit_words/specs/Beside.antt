@@ -21,6 +21,7 @@ pub record TellsDone (ran : ℕ → List ℕ) (m : Member) (d : Done) : Type 0 w
   pub reader : m.reader ≡ d.reader
   pub views : (a : ℕ) → is_act_who d.who ≡ false → is_among m.tid (ran a) ≡ is_some (d.views a)
 
+-- the same ones, in the same order
 abbrev pub EachTold : (ℕ → List ℕ) → List Member → List Done → Type 0
 EachTold ran [] [] = ⊤
 EachTold ran [] (d ∷ ds) = ⊥

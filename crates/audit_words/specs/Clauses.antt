@@ -25,6 +25,7 @@ use Rattle.audit_words.specs.Papers.{Line, Reply, Actor, End, Kept, Recovered}
 
 -- ---- the shape of a report
 
+-- nobody knows what became of it
 abbrev pub is_unsure : Verdict → Bool
 is_unsure (verdicts.Unsure l) = true
 is_unsure _ = false
@@ -35,10 +36,12 @@ is_answered n [] = false
 is_answered n (Reply m v ∷ ls) = (m == n) || is_answered n ls
 is_answered n (_ ∷ ls) = is_answered n ls
 
+-- it is a reply that tells of a commit
 abbrev pub tells_commit : Line → Bool
 tells_commit (Reply n v) = is_committed v
 tells_commit _ = false
 
+-- it is a reply that tells of anything else
 abbrev pub tells_other : Line → Bool
 tells_other (Reply n v) = not (is_committed v)
 tells_other _ = false
@@ -104,6 +107,7 @@ serial m world (tx ∷ txs) =
 abbrev pub done_at : ℕ → Place → TxResult → Done
 done_at n p r = record { who = OfAct n; tid = n; tx = n; place = p; result = Some r; reader = false; views = λ a. None }
 
+-- who is told a value or a code has a place, and no other has one
 abbrev pub located_by : ℕ → Verdict → List Done
 located_by n (verdicts.Committed p v) = done_at n p (Value v) ∷ []
 located_by n (verdicts.Code p code) = done_at n p (Fail code) ∷ []
@@ -119,6 +123,7 @@ located (_ ∷ ls) = located ls
 abbrev pub world_after : Meaning → Text → List State → Done → List State
 world_after m w world d = if is_value d.result then (m world (tx_at w d.tx)).world else world
 
+-- behind all of these
 abbrev pub world_behind : Meaning → Text → List State → List Done → List State
 world_behind m w world [] = world
 world_behind m w world (d ∷ ds) = world_behind m w (world_after m w world d) ds
@@ -128,6 +133,7 @@ abbrev pub given : Meaning → Text → List State → List Done → List (ℕ �
 given m w world [] = []
 given m w world (d ∷ ds) = (d.tx, (m world (tx_at w d.tx)).result) ∷ given m w (world_after m w world d) ds
 
+-- what is given to transaction n
 abbrev pub given_to : ℕ → List (ℕ × TxResult) → Option TxResult
 given_to n [] = None
 given_to n (x ∷ xs) = if x.0 == n then Some x.1 else given_to n xs
@@ -136,6 +142,7 @@ given_to n (x ∷ xs) = if x.0 == n then Some x.1 else given_to n xs
 abbrev pub given_in : Meaning → Text → List Line → List (ℕ × TxResult)
 given_in m w ls = given m w w.opening.states (by_place (located ls))
 
+-- the states that they leave
 abbrev pub last_world : Meaning → Text → List Line → List State
 last_world m w ls = world_behind m w w.opening.states (by_place (located ls))
 
@@ -148,6 +155,7 @@ TellsMeaning m w ls front _ = ⊤
 
 -- ---- the order of placing
 
+-- whoever was placed before the transaction on some actor, and has its place, has it below the transaction's
 abbrev pub TellsOrder : Seen → List Line → Line → Type 0
 TellsOrder s front (Reply n v) = RiseTo n (seen_history s)
 TellsOrder s front _ = ⊤
@@ -158,6 +166,7 @@ TellsOrder s front _ = ⊤
 abbrev pub counts : ℕ → ℕ → Done → Bool
 counts k c d = is_value d.result && (if d.place.side == 0 then nat_lt d.place.batch.0 k else nat_lt d.place.order c)
 
+-- the states that these leave, one by one in the order of their places
 abbrev pub world_before : Meaning → Text → ℕ → ℕ → List Line → List State
 world_before m w k c ls = (serial m w.opening.states (map (λ d. tx_at w d.tx) (filter (counts k c) (by_place (located ls))))).world
 
@@ -197,14 +206,17 @@ pub record IsTakenPact (s : Seen) (n k : ℕ) : Type 0 where
   pub found : find (λ b. list_any (λ q. q.tx == n) b.pacts) s.batches ≡ Some batch
   pub reached : list_any (λ x. (x.first == k) && (nat_le k batch.bid && nat_le batch.bid x.upto)) s.cuts ≡ true
 
+-- transaction n is told that it failed with batch k
 abbrev pub tells_batch_code : ℕ → ℕ → Line → Bool
 tells_batch_code n k (Reply m (verdicts.BatchCode j at code)) = (m == n) && (j.0 == k)
 tells_batch_code n k _ = false
 
+-- Transaction `by` is told that batch k failed with it, and that cascade took transaction n along.
 pub record IsTakenAlong (s : Seen) (ls : List Line) (n k by : ℕ) : Type 0 where
   pub told : list_any (tells_batch_code by k) ls ≡ true
   pub taken : (IsTakenPact s n k × (n ≢ by)) ⊎ IsGivenUp s n (Taken k)
 
+-- whoever is told that it was aborted has its evidence in the events
 abbrev pub TellsEvidence : Meaning → Text → Seen → List Line → List Line → Line → Type 0
 TellsEvidence m w s ls front (Reply n (verdicts.BatchCode k at code)) = FailsItsBatch m w s ls n k.0 at code
 TellsEvidence m w s ls front (Reply n (verdicts.Cascade k by)) = IsTakenAlong s ls n k.0 by.0

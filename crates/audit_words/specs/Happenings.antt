@@ -20,6 +20,7 @@ use Rattle.audit_words.specs.Seen.{act_in, is_act, lock_in, is_given_up, has_pla
 abbrev pub give_up : List Doom → Seen → Seen
 give_up ds s = record s { dooms = s.dooms ++ ds; gains = filter (λ p. not (is_given_up (s.dooms ++ ds) p.ahead)) s.gains }
 
+-- its sets cross: with the ends of both, and the actor
 abbrev pub crossing : ℕ → Seen → Begun → Doom
 crossing a s x = record { tid = x.tid; why = Crossed (greatest (s.before x.tid)) (unwrap_or (least (s.behind x.tid)) 0) a }
 
@@ -74,6 +75,7 @@ ahead_of t a s = filter (λ x. not (is_given_up s.dooms x.tid)) (met t a s)
 abbrev pub gain : ℕ → ℕ → Seen → List ℕ
 gain t a s = s.kept a ++ (sets_of s.before (filter (rivals (lock_in s.acts t)) (s.left_sealed a)) ++ sets_of s.before (ahead_of t a s))
 
+-- it stands behind each of these
 abbrev pub with_pairs : ℕ → ℕ → Seen → List Pair
 with_pairs t a s = s.gains ++ map (λ x. record { behind = t; ahead = x.tid; actor = a }) (ahead_of t a s)
 
@@ -82,6 +84,7 @@ abbrev pub spread : List Pair → List Begun → (ℕ → List ℕ) → ℕ → 
 spread pairs [] before = before
 spread pairs (x ∷ xs) before = gains_over pairs x.tid (spread pairs xs before)
 
+-- it stands last on the actor; its set grows, and with it the sets of those that stand behind it elsewhere
 abbrev pub with_act : ℕ → ℕ → Seen → Seen
 with_act t a s = record s {
   placed = with_at a (s.placed a ++ OfAct t ∷ []) s.placed;
@@ -97,6 +100,7 @@ asks t a None s = cross_out a (with_act t a s)
 
 -- ---- a cascade
 
+-- the batch was formed, and no cascade took it along
 abbrev pub may_abort : ℕ → Seen → Bool
 may_abort k s = is_batch k s && not (is_cut_off k s.cuts)
 
@@ -104,6 +108,7 @@ may_abort k s = is_batch k s && not (is_cut_off k s.cuts)
 abbrev pub taken_by : ℕ → Seen → List Doom
 taken_by k s = map (λ x. record { tid = x.tid; why = Taken k }) (filter (λ x. is_live s x.tid && nat_le k (greatest (s.before x.tid))) s.acts)
 
+-- every batch from this one on is cut off, and stands behind nobody any more
 abbrev pub with_cut : Text → ℕ → Seen → Seen
 with_cut w k s = record s {
   cuts = s.cuts ++ record { first = k; upto = s.ring.next_bid - 1; at = next_c w s } ∷ [];
@@ -118,6 +123,7 @@ stays passed cuts [] = []
 stays passed cuts (OfBatch k ∷ ws) = if is_cut_off k cuts then stays true cuts ws else OfBatch k ∷ stays passed cuts ws
 stays passed cuts (OfAct t ∷ ws) = if passed then stays passed cuts ws else OfAct t ∷ stays passed cuts ws
 
+-- of the actor, with the batches that were kept there
 abbrev pub rolled_back : ℕ → Seen → Seen
 rolled_back a s = record s {
   entries = with_at a (stays false s.cuts (s.entries a)) s.entries;
@@ -126,6 +132,7 @@ rolled_back a s = record s {
 
 -- ---- who gets its place
 
+-- its place is in its batch, by its tid
 abbrev pub pact_member : ℕ → Pact → Member
 pact_member k p = record { who = OfBatch k; tid = p.tid; tx = p.tx; place = pact_place k p.tid; reader = false }
 
@@ -149,6 +156,7 @@ deciding w (Some x) s = if has_place (OfAct x.tid) s.members then [] else act_me
 abbrev pub seals : ℕ → Seen → List Lock
 seals t s = if has_place (OfAct t) s.members && not (is_given_up s.dooms t) then lock_in s.acts t ∷ [] else []
 
+-- it leaves the actor, and nobody gains from it there any more
 abbrev pub left : ℕ → ℕ → Seen → Seen
 left t a s = record s {
   entries = with_at a (filter (λ y. not (is_who y (OfAct t))) (s.entries a)) s.entries;
@@ -169,6 +177,7 @@ ring_after w _ r = r
 
 -- ---- the table: what an event adds to the rest
 
+-- the events that are not named here tell nothing of their own
 unfoldable pub added : (Tx → Bool) → Text → Event → Seen → Seen
 added reads w (Form k) s = record s { batches = s.batches ++ planned w k s.ring ∷ [] }
 added reads w (Admit t) s = with_begun reads w t (next_act s.ring) s
@@ -184,6 +193,7 @@ added reads w (Finish t a) s = if is_there (OfAct t) (s.entries a) then left t a
 added reads w (Trim k a) s = record s { entries = with_at a (filter (λ y. not (is_who y (OfBatch k))) (s.entries a)) s.entries }
 added reads w _ s = s
 
+-- behind one more event
 abbrev pub happened : (Tx → Bool) → Text → Event → Seen → Seen
 happened reads w e s = record (added reads w e s) { ring = ring_after w e s.ring }
 

@@ -14,6 +14,7 @@ seen_view b = if b then Some (record { found = no_state; left = no_state }) else
 abbrev pub seen_done : (ℕ → List ℕ) → Member → Done
 seen_done ran m = record { who = m.who; tid = m.tid; tx = m.tx; place = m.place; result = None; reader = m.reader; views = λ a. seen_view (is_among m.tid (ran a)) }
 
+-- the history of the machine, as far as its chains go: who was placed on each actor, and who has its place
 abbrev pub seen_history : Seen → History
 seen_history s = record no_history { placed = s.placed; committed = map (seen_done s.ran) s.members }
 

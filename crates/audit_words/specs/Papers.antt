@@ -13,9 +13,11 @@ use Rattle.snap_report.specs.Lines.{value_text}
 
 -- ---- the parts of an input
 
+-- the line between text and trace
 abbrev pub trace_divider : List ℕ
 trace_divider = codes "== trace"
 
+-- the line between trace and report
 abbrev pub report_divider : List ℕ
 report_divider = codes "== report"
 
@@ -52,6 +54,7 @@ LacksDivider input = (¬ Contains (lines input) report_divider)
 
 -- ---- the lines of a report
 
+-- a line of a report, as what it says
 pub data Line : Type 0 where
   -- the reply to transaction n
   Reply : (n : ℕ) → Verdict → Line
@@ -72,6 +75,7 @@ line_text (Kept p v) = codes "kept " ++ (place_text p ++ (codes " " ++ value_tex
 line_text (Recovered x y t k c) =
     codes "recovered batches " ++ (decimal x ++ (codes " acts " ++ (decimal y ++ (codes " next " ++ (decimal t ++ (codes " " ++ (decimal k ++ (codes " " ++ decimal c))))))))
 
+-- its numbers have 64 bits, and its side has 8
 abbrev pub IsPlace : Place → Type 0
 IsPlace p = (p.batch.0 < 2 ^ 64) × (p.side < 2 ^ 8) × (p.order < 2 ^ 64)
 

@@ -23,21 +23,26 @@ use Rattle.audit_words.specs.Audited.{Audited}
 
 -- ---- lines
 
+-- the reply to transaction n, where it has a verdict
 abbrev pub line_by : ℕ → Option Verdict → List Line
 line_by n None = []
 line_by n (Some v) = Reply n v ∷ []
 
+-- the replies, in their order
 abbrev pub reply_lines : List Answer → List Line
 reply_lines [] = []
 reply_lines (x ∷ xs) = line_by x.tx x.verdict ++ reply_lines xs
 
+-- the actors from this number on
 abbrev pub actor_lines : ℕ → List State → List Line
 actor_lines a [] = []
 actor_lines a (s ∷ states) = Actor a (shown_fields s.0) ∷ actor_lines (a + 1) states
 
+-- the replies, the actors and the end
 abbrev pub lines_told : Report → List Line
 lines_told r = reply_lines r.answers ++ (actor_lines 0 r.states ++ End r.committed r.aborted r.batches ∷ [])
 
+-- of a run
 abbrev pub report_lines : {C : Type 0} → Fixed C → List Event → List Line
 report_lines w es = lines_told (report es (reached w es))
 

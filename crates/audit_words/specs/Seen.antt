@@ -28,6 +28,7 @@ pub data Why : Type 0 where
   -- the cascade of this batch took it along
   Taken : (batch : ℕ) → Why
 
+-- it is given up, for this reason
 pub record Doom : Type 0 where
   pub tid : ℕ
   pub why : Why
@@ -49,6 +50,7 @@ pub record Member : Type 0 where
 
 -- ---- what is told in all
 
+-- What events tell.
 pub record Seen : Type 0 where
   -- the token, what waits at the coordinators, and the numbers that are drawn next
   pub ring : Ring
@@ -110,12 +112,15 @@ nothing_seen w = record {
 
 -- ---- batches
 
+-- the batch with this number
 abbrev pub batch_in : ℕ → List Formed → Option Formed
 batch_in k batches = find (λ b. b.bid == k) batches
 
+-- it was formed
 abbrev pub is_batch : ℕ → Seen → Bool
 is_batch k s = is_some (batch_in k s.batches)
 
+-- a PACT of the batch declares the actor
 abbrev pub goes_to : ℕ → Option Formed → Bool
 goes_to a None = false
 goes_to a (Some b) = is_among a b.actors
@@ -124,14 +129,17 @@ goes_to a (Some b) = is_among a b.actors
 abbrev pub is_cut_off : ℕ → List Cut → Bool
 is_cut_off k cuts = list_any (λ c. nat_le c.first k && nat_le k c.upto) cuts
 
+-- who it is, is among these
 abbrev pub is_there : Who → List Who → Bool
 is_there who ws = list_any (is_who who) ws
 
 -- ---- ACTs
 
+-- the ACT with this tid
 abbrev pub act_in : ℕ → List Begun → Option Begun
 act_in t acts = find (λ x. x.tid == t) acts
 
+-- it was admitted
 abbrev pub is_act : ℕ → Seen → Bool
 is_act t s = is_some (act_in t s.acts)
 
@@ -139,9 +147,11 @@ is_act t s = is_some (act_in t s.acts)
 abbrev pub lock_in : List Begun → ℕ → Lock
 lock_in acts t = record { tid = t; reader = holds (λ x. x.reader) (act_in t acts) }
 
+-- the first reason for which an ACT is given up
 abbrev pub doom_of : ℕ → List Doom → Option Doom
 doom_of t dooms = find (λ d. d.tid == t) dooms
 
+-- it is given up
 abbrev pub is_given_up : List Doom → ℕ → Bool
 is_given_up dooms t = is_some (doom_of t dooms)
 

@@ -13,13 +13,15 @@ use Rattle.snap_report.specs.Lines.{shown_fields}
 use Rattle.audit_words.specs.Papers.{Line, Actor}
 use Rattle.audit_words.specs.Clauses.{Meaning, serial, located}
 
+-- the transactions themselves
 abbrev pub txs : Text → List Done → List Tx
 txs w ds = map (λ d. tx_at w d.tx) ds
 
--- who is told a place, in the order of places; and those of them that committed
+-- who is told a place, in the order of places
 abbrev pub told : List Line → List Done
 told ls = by_place (located ls)
 
+-- those of them that committed
 abbrev pub committed : List Line → List Done
 committed ls = filter (λ d. is_value d.result) (told ls)
 
@@ -28,6 +30,7 @@ abbrev pub TellsState : List State → Line → Type 0
 TellsState world (Actor a fields) = fields ≡ shown_fields (state_in world a).0
 TellsState world _ = Unit {0}
 
+-- What is printed is a serial run.
 pub record PrintedIsSerial (m : Meaning) (w : Text) (ls : List Line) : Type 0 where
   -- the committed, one by one, give just the values that are printed
   pub results : map Some (serial m w.opening.states (txs w (committed ls))).results ≡ map (λ d. d.result) (committed ls)
