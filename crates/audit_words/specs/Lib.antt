@@ -4,6 +4,7 @@ pub mod Orders
 pub mod Papers
 pub mod Clauses
 pub mod Audited
+pub mod Inputs
 pub mod Serial
 pub mod Reports
 pub mod Beside
