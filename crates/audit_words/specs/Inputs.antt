@@ -1,5 +1,5 @@
 -- The input of an audit: the papers that it has, and the first thing that is wrong with it, in the order in which it is looked for.
-use Rattle.std.specs.Prelude.{◌≡◌, ℕ, List, map}
+use Rattle.std.specs.Prelude.{◌≡◌, ℕ, List, ◌++◌, map}
 use Rattle.aml_check.specs.Meaning.{alone}
 use Rattle.aml_check.specs.Names.{method_at}
 use Rattle.snap_work.specs.Works.{Work}
@@ -10,7 +10,7 @@ use Rattle.core_events.specs.Meant.{event_meant}
 use Rattle.trace_text.specs.Traces.{IsTrace, IsFirstNoEvent}
 use Rattle.protocol.specs.Events.{Event}
 use Rattle.protocol.specs.Fixed as fixed
-use Rattle.audit_words.specs.Papers.{AreParts, LacksDivider, Line, IsReport, IsFirstNoLine}
+use Rattle.audit_words.specs.Papers.{AreParts, LacksDivider, Line, IsReport, IsFirstNoLine, ended, report_divider, trace_divider}
 use Rattle.audit_words.specs.Clauses.{Language}
 use Rattle.audit_words.specs.Audited.{Audited, IsOff}
 
@@ -33,6 +33,10 @@ abbrev pub language : Work → Language
 language w = record { meaning = λ world tx. alone w.program world tx; reads = λ tx. (method_at w.program tx.method).is_read }
 
 -- ---- an input in order
+
+-- text, trace and report as one input, each behind its divider; the text ends with a line feed
+abbrev pub input_of : List ℕ → List ℕ → List ℕ → List ℕ
+input_of text trace report = text ++ (ended trace_divider ++ (trace ++ (ended report_divider ++ report)))
 
 -- The parts of the input are a text, which stands for this work, the trace of these events, and a report of these lines.
 pub record ArePapers (input : List ℕ) (w : Work) (es : List Event) (ls : List Line) : Type 0 where
