@@ -19,17 +19,17 @@ on_ring w (Form k) r = (k == r.next_bid) ∷ not (lacks_pacts r) ∷ []
 on_ring w (Admit t) r = (t == r.next_tid) ∷ not (lacks_acts r) ∷ []
 on_ring w _ r = []
 
--- each event does, where the ones before it leave the ring
+-- each event meets its conditions on the ring that the ones before it leave
 abbrev pub EachMeets : Text → List Event → Ring → Type 0
 EachMeets w [] r = ⊤
 EachMeets w (e ∷ es) r = AllTrue (on_ring w e r) × EachMeets w es (ring_after w e r)
 
--- behind some events
+-- the ring behind some events
 abbrev pub ring_behind : Text → List Event → Ring → Ring
 ring_behind w [] r = r
 ring_behind w (e ∷ es) r = ring_behind w es (ring_after w e r)
 
--- the first event, from 0 on, that does not
+-- the first event, from 0 on, that does not meet them
 pub record IsFirstNotMet (w : Text) (es : List Event) (at : ℕ) : Type 0 where
   pub front : List Event
   pub event : Event
@@ -91,7 +91,7 @@ pub record Audited (p : Language) (w : Text) (es : List Event) (ls : List Line) 
 abbrev pub OrBehind : Type 0 → (ℕ → Type 0) → ℕ → (ℕ → ℕ → Type 0) → ℕ → ℕ → Type 0
 OrBehind Holds Off number Behind clause at = ((clause ≡ number) × Off at) ⊎ (Holds × Behind clause at)
 
--- such a clause on lines
+-- a clause on lines, with its number, and those behind it
 abbrev pub LinesOff : (List Line → Line → Type 0) → List Line → ℕ → (ℕ → ℕ → Type 0) → ℕ → ℕ → Type 0
 LinesOff P ls = OrBehind (EachLine P [] ls) (IsFirstOff P ls)
 

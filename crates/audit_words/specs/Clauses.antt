@@ -25,7 +25,7 @@ use Rattle.audit_words.specs.Papers.{Line, Reply, Actor, End, Kept, Recovered}
 
 -- ---- the shape of a report
 
--- nobody knows what became of it
+-- the verdict that nobody knows what became of a transaction
 abbrev pub is_unsure : Verdict → Bool
 is_unsure (verdicts.Unsure l) = true
 is_unsure _ = false
@@ -36,12 +36,12 @@ is_answered n [] = false
 is_answered n (Reply m v ∷ ls) = (m == n) || is_answered n ls
 is_answered n (_ ∷ ls) = is_answered n ls
 
--- it is a reply that tells of a commit
+-- the line is a reply that tells of a commit
 abbrev pub tells_commit : Line → Bool
 tells_commit (Reply n v) = is_committed v
 tells_commit _ = false
 
--- it is a reply that tells of anything else
+-- the line is a reply that tells of anything else
 abbrev pub tells_other : Line → Bool
 tells_other (Reply n v) = not (is_committed v)
 tells_other _ = false
@@ -57,7 +57,7 @@ MayFollow txs actors settled front (Recovered x y t k c) = ⊥
 
 -- ---- places
 
--- it is of no smaller batch
+-- the second one is of no smaller batch than the first
 abbrev pub IsNotBelow : Who → Who → Type 0
 IsNotBelow (OfBatch k) (OfBatch j) = k ≤ j
 IsNotBelow (OfBatch k) (OfAct t) = ⊤
@@ -123,7 +123,7 @@ located (_ ∷ ls) = located ls
 abbrev pub world_after : Meaning → Text → List State → Done → List State
 world_after m w world d = if is_value d.result then (m world (tx_at w d.tx)).world else world
 
--- behind all of these
+-- the states behind all of these
 abbrev pub world_behind : Meaning → Text → List State → List Done → List State
 world_behind m w world [] = world
 world_behind m w world (d ∷ ds) = world_behind m w (world_after m w world d) ds
@@ -138,11 +138,11 @@ abbrev pub given_to : ℕ → List (ℕ × TxResult) → Option TxResult
 given_to n [] = None
 given_to n (x ∷ xs) = if x.0 == n then Some x.1 else given_to n xs
 
--- those of a report, in the order of their places, from the states of the text
+-- what is given to those of a report, in the order of their places, from the states of the text
 abbrev pub given_in : Meaning → Text → List Line → List (ℕ × TxResult)
 given_in m w ls = given m w w.opening.states (by_place (located ls))
 
--- the states that they leave
+-- the states that those of a report leave
 abbrev pub last_world : Meaning → Text → List Line → List State
 last_world m w ls = world_behind m w w.opening.states (by_place (located ls))
 

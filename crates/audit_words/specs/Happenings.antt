@@ -20,7 +20,7 @@ use Rattle.audit_words.specs.Seen.{act_in, is_act, lock_in, is_given_up, has_pla
 abbrev pub give_up : List Doom → Seen → Seen
 give_up ds s = record s { dooms = s.dooms ++ ds; gains = filter (λ p. not (is_given_up (s.dooms ++ ds) p.ahead)) s.gains }
 
--- its sets cross: with the ends of both, and the actor
+-- why an ACT whose sets cross is given up: the greatest batch before it, the least behind it, and the actor
 abbrev pub crossing : ℕ → Seen → Begun → Doom
 crossing a s x = record { tid = x.tid; why = Crossed (greatest (s.before x.tid)) (unwrap_or (least (s.behind x.tid)) 0) a }
 
@@ -44,7 +44,7 @@ with_begun reads w t n s = record s {
 abbrev pub comes : ℕ → ℕ → Seen → Bool
 comes k a s = goes_to a (batch_in k s.batches) && (not (is_there (OfBatch k) (s.placed a)) && not (is_cut_off k s.cuts))
 
--- it stands behind the ACTs that are there
+-- the batch stands last on the actor, behind the ACTs that are there
 abbrev pub with_batch : ℕ → ℕ → Seen → Seen
 with_batch k a s = record s {
   placed = with_at a (s.placed a ++ OfBatch k ∷ []) s.placed;
@@ -63,19 +63,20 @@ may_ask w t a s = (is_act t s && nat_lt a (length w.opening.states)) && (not (is
 abbrev pub tail_of : ℕ → Seen → List Lock
 tail_of a s = map (lock_in s.acts) (tail_behind [] (s.entries a))
 
--- those of them that it can't stand beside
+-- those of the tail group that the ACT can't stand beside: its rivals
 abbrev pub met : ℕ → ℕ → Seen → List Lock
 met t a s = filter (rivals (lock_in s.acts t)) (tail_of a s)
 
--- those of them that are not given up
+-- the rivals there that are not given up
 abbrev pub ahead_of : ℕ → ℕ → Seen → List Lock
 ahead_of t a s = filter (λ x. not (is_given_up s.dooms x.tid)) (met t a s)
 
--- What it gains there: the batches, the sets of its rivals that left sealed, and those of its rivals in the tail group.
+-- What an ACT gains at its Ask: the batches that are kept there, the sets of its rivals that left sealed, and those of its rivals
+-- in the tail group.
 abbrev pub gain : ℕ → ℕ → Seen → List ℕ
 gain t a s = s.kept a ++ (sets_of s.before (filter (rivals (lock_in s.acts t)) (s.left_sealed a)) ++ sets_of s.before (ahead_of t a s))
 
--- it stands behind each of these
+-- the ACT stands behind each of them there
 abbrev pub with_pairs : ℕ → ℕ → Seen → List Pair
 with_pairs t a s = s.gains ++ map (λ x. record { behind = t; ahead = x.tid; actor = a }) (ahead_of t a s)
 
@@ -84,7 +85,7 @@ abbrev pub spread : List Pair → List Begun → (ℕ → List ℕ) → ℕ → 
 spread pairs [] before = before
 spread pairs (x ∷ xs) before = gains_over pairs x.tid (spread pairs xs before)
 
--- it stands last on the actor; its set grows, and with it the sets of those that stand behind it elsewhere
+-- the ACT stands last on the actor; its set grows, and with it the sets of those that stand behind it elsewhere
 abbrev pub with_act : ℕ → ℕ → Seen → Seen
 with_act t a s = record s {
   placed = with_at a (s.placed a ++ OfAct t ∷ []) s.placed;
@@ -93,7 +94,7 @@ with_act t a s = record s {
   gains = with_pairs t a s;
 }
 
--- by the least older one that is in its way, where there is one
+-- Where an older one is in its way, the ACT is given up by the least of these; else it is placed.
 abbrev pub asks : ℕ → ℕ → Option ℕ → Seen → Seen
 asks t a (Some older) s = give_up (record { tid = t; why = Older a older } ∷ []) s
 asks t a None s = cross_out a (with_act t a s)
@@ -108,7 +109,7 @@ may_abort k s = is_batch k s && not (is_cut_off k s.cuts)
 abbrev pub taken_by : ℕ → Seen → List Doom
 taken_by k s = map (λ x. record { tid = x.tid; why = Taken k }) (filter (λ x. is_live s x.tid && nat_le k (greatest (s.before x.tid))) s.acts)
 
--- every batch from this one on is cut off, and stands behind nobody any more
+-- every batch that was formed, from this one on, is cut off, and stands behind nobody any more
 abbrev pub with_cut : Text → ℕ → Seen → Seen
 with_cut w k s = record s {
   cuts = s.cuts ++ record { first = k; upto = s.ring.next_bid - 1; at = next_c w s } ∷ [];
@@ -123,7 +124,7 @@ stays passed cuts [] = []
 stays passed cuts (OfBatch k ∷ ws) = if is_cut_off k cuts then stays true cuts ws else OfBatch k ∷ stays passed cuts ws
 stays passed cuts (OfAct t ∷ ws) = if passed then stays passed cuts ws else OfAct t ∷ stays passed cuts ws
 
--- of the actor, with the batches that were kept there
+-- the actor loses its cut batches, and the ACTs behind the first of them
 abbrev pub rolled_back : ℕ → Seen → Seen
 rolled_back a s = record s {
   entries = with_at a (stays false s.cuts (s.entries a)) s.entries;
@@ -132,7 +133,7 @@ rolled_back a s = record s {
 
 -- ---- who gets its place
 
--- its place is in its batch, by its tid
+-- a PACT at its place: in its batch, by its tid
 abbrev pub pact_member : ℕ → Pact → Member
 pact_member k p = record { who = OfBatch k; tid = p.tid; tx = p.tx; place = pact_place k p.tid; reader = false }
 
@@ -141,7 +142,7 @@ abbrev pub committing : ℕ → Option Formed → List Member → List Member
 committing k None members = []
 committing k (Some b) members = if has_place (OfBatch k) members then [] else map (pact_member k) b.pacts
 
--- behind the greatest batch before it, with the number that is drawn next
+-- an ACT at its place: behind the greatest batch before it, with the number that is drawn next
 abbrev pub act_member : Text → Seen → Begun → Member
 act_member w s x = record { who = OfAct x.tid; tid = x.tid; tx = x.tx; place = act_place (greatest (s.before x.tid)) (next_c w s); reader = x.reader }
 
@@ -152,11 +153,11 @@ deciding w (Some x) s = if has_place (OfAct x.tid) s.members then [] else act_me
 
 -- ---- an ACT leaves
 
--- sealed, where it has its place and is not given up
+-- the ACT leaves sealed, where it has its place and is not given up
 abbrev pub seals : ℕ → Seen → List Lock
 seals t s = if has_place (OfAct t) s.members && not (is_given_up s.dooms t) then lock_in s.acts t ∷ [] else []
 
--- it leaves the actor, and nobody gains from it there any more
+-- the ACT leaves the actor, and nobody gains from it there any more
 abbrev pub left : ℕ → ℕ → Seen → Seen
 left t a s = record s {
   entries = with_at a (filter (λ y. not (is_who y (OfAct t))) (s.entries a)) s.entries;
@@ -166,7 +167,7 @@ left t a s = record s {
 
 -- ---- the ring alone
 
--- what an event makes of it
+-- what an event makes of the ring
 unfoldable pub ring_after : Text → Event → Ring → Ring
 ring_after w (Submit n) r = submitted w n r
 ring_after w (Pass c) r = passed c r
@@ -193,15 +194,15 @@ added reads w (Finish t a) s = if is_there (OfAct t) (s.entries a) then left t a
 added reads w (Trim k a) s = record s { entries = with_at a (filter (λ y. not (is_who y (OfBatch k))) (s.entries a)) s.entries }
 added reads w _ s = s
 
--- behind one more event
+-- what is told behind one more event
 abbrev pub happened : (Tx → Bool) → Text → Event → Seen → Seen
 happened reads w e s = record (added reads w e s) { ring = ring_after w e s.ring }
 
--- behind some events
+-- what is told behind some events
 abbrev pub seen_from : (Tx → Bool) → Text → List Event → Seen → Seen
 seen_from reads w [] s = s
 seen_from reads w (e ∷ es) s = seen_from reads w es (happened reads w e s)
 
--- what all of them tell
+-- what the events of a run tell in all
 abbrev pub seen : (Tx → Bool) → Text → List Event → Seen
 seen reads w es = seen_from reads w es (nothing_seen w)

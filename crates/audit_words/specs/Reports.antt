@@ -42,7 +42,7 @@ actor_lines a (s ∷ states) = Actor a (shown_fields s.0) ∷ actor_lines (a + 1
 abbrev pub lines_told : Report → List Line
 lines_told r = reply_lines r.answers ++ (actor_lines 0 r.states ++ End r.committed r.aborted r.batches ∷ [])
 
--- of a run
+-- the report of a run, as lines
 abbrev pub report_lines : {C : Type 0} → Fixed C → List Event → List Line
 report_lines w es = lines_told (report es (reached w es))
 
@@ -52,7 +52,7 @@ report_lines w es = lines_told (report es (reached w es))
 abbrev pub meaning_of : {C : Type 0} → Fixed C → (C → List State → Alone) → Meaning
 meaning_of w finish world tx = alone w.code finish world tx
 
--- and which transactions only read
+-- the language, as the code of a text has it
 abbrev pub language_of : {C : Type 0} → Fixed C → (C → List State → Alone) → Language
 language_of w finish = record { meaning = meaning_of w finish; reads = w.code.only_reads }
 

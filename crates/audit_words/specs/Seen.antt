@@ -12,7 +12,7 @@ use Rattle.protocol.specs.Spread.{reaches}
 
 -- ---- what is told of who
 
--- an ACT, with its transaction
+-- an ACT that was admitted
 pub record Begun : Type 0 where
   pub tid : ℕ
   pub tx : ℕ
@@ -116,7 +116,7 @@ nothing_seen w = record {
 abbrev pub batch_in : ℕ → List Formed → Option Formed
 batch_in k batches = find (λ b. b.bid == k) batches
 
--- it was formed
+-- the batch was formed
 abbrev pub is_batch : ℕ → Seen → Bool
 is_batch k s = is_some (batch_in k s.batches)
 
@@ -129,7 +129,7 @@ goes_to a (Some b) = is_among a b.actors
 abbrev pub is_cut_off : ℕ → List Cut → Bool
 is_cut_off k cuts = list_any (λ c. nat_le c.first k && nat_le k c.upto) cuts
 
--- who it is, is among these
+-- this one is among these
 abbrev pub is_there : Who → List Who → Bool
 is_there who ws = list_any (is_who who) ws
 
@@ -139,11 +139,11 @@ is_there who ws = list_any (is_who who) ws
 abbrev pub act_in : ℕ → List Begun → Option Begun
 act_in t acts = find (λ x. x.tid == t) acts
 
--- it was admitted
+-- the ACT was admitted
 abbrev pub is_act : ℕ → Seen → Bool
 is_act t s = is_some (act_in t s.acts)
 
--- what an actor knows of it
+-- what an actor knows of an ACT: its tid, and whether it only reads
 abbrev pub lock_in : List Begun → ℕ → Lock
 lock_in acts t = record { tid = t; reader = holds (λ x. x.reader) (act_in t acts) }
 
@@ -151,25 +151,25 @@ lock_in acts t = record { tid = t; reader = holds (λ x. x.reader) (act_in t act
 abbrev pub doom_of : ℕ → List Doom → Option Doom
 doom_of t dooms = find (λ d. d.tid == t) dooms
 
--- it is given up
+-- the ACT is given up
 abbrev pub is_given_up : List Doom → ℕ → Bool
 is_given_up dooms t = is_some (doom_of t dooms)
 
--- it has its place
+-- this one has its place
 abbrev pub has_place : Who → List Member → Bool
 has_place who members = list_any (λ m. is_who who m.who) members
 
--- neither given up nor decided
+-- the ACT is neither given up nor decided
 abbrev pub is_live : Seen → ℕ → Bool
 is_live s t = not (is_given_up s.dooms t) && not (has_place (OfAct t) s.members)
 
--- the ACTs that stand there
+-- the ACTs among these
 abbrev pub acts_among : List Who → List ℕ
 acts_among [] = []
 acts_among (OfBatch k ∷ ws) = acts_among ws
 acts_among (OfAct t ∷ ws) = t ∷ acts_among ws
 
--- those behind the last batch; the first list has those behind the batches so far
+-- the ACTs behind the last batch; the first list has those that were found behind it so far
 abbrev pub tail_behind : List ℕ → List Who → List ℕ
 tail_behind ts [] = ts
 tail_behind ts (OfBatch k ∷ ws) = tail_behind [] ws
@@ -180,7 +180,7 @@ abbrev pub least : List ℕ → Option ℕ
 least [] = None
 least (k ∷ ks) = Some (least_of k (least ks))
 
--- the greatest batch before it is not below the least behind it
+-- the ACT is live, and the greatest batch before it is not below the least behind it
 abbrev pub is_crossed : Seen → ℕ → Bool
 is_crossed s t = is_live s t && reaches (greatest (s.before t)) (least (s.behind t))
 
