@@ -20,16 +20,16 @@ pact a b = record { kind = kinds.Pact; actor = record { 0 = a }; method = 0; arg
 abbrev text : List Tx → Text
 text txs = record { coordinators = 1; logs = 1; batch = 16; batches = 8; acts = 8; txs = txs; opening = record { states = no_state ∷ no_state ∷ []; next_tid = 1; next_bid = 1; next_c = 1 } }
 
-abbrev row8 : List Event
-row8 = Submit 0 ∷ Submit 1 ∷ Admit 1 ∷ Admit 2 ∷ Ask 1 0 ∷ Ask 2 1 ∷ Run 1 0 ∷ Run 2 1 ∷ Send 1 0 ∷ Ask 1 1 ∷ Send 2 1 ∷ Ask 2 0 ∷ Finish 2 1 ∷ Run 1 1 ∷ Send 1 1 ∷ Take 1 0 ∷ Run 1 0 ∷ End 1 0 ∷ Decide 1 ∷ Seal 1 ∷ Finish 1 0 ∷ Finish 1 1 ∷ []
+abbrev meeting : List Event
+meeting = Submit 0 ∷ Submit 1 ∷ Admit 1 ∷ Admit 2 ∷ Ask 1 0 ∷ Ask 2 1 ∷ Run 1 0 ∷ Run 2 1 ∷ Send 1 0 ∷ Ask 1 1 ∷ Send 2 1 ∷ Ask 2 0 ∷ Finish 2 1 ∷ Run 1 1 ∷ Send 1 1 ∷ Take 1 0 ∷ Run 1 0 ∷ End 1 0 ∷ Decide 1 ∷ Seal 1 ∷ Finish 1 0 ∷ Finish 1 1 ∷ []
 
--- row 8: the ACT dies by the older one on actor 0
-wait_die : (seen (λ tx. false) (text (act 0 ∷ act 1 ∷ [])) row8).dooms ≡ record { tid = 2; why = Older 0 1 } ∷ []
+-- two ACTs call each other's actors: the younger one dies by the older one on actor 0
+wait_die : (seen (λ tx. false) (text (act 0 ∷ act 1 ∷ [])) meeting).dooms ≡ record { tid = 2; why = Older 0 1 } ∷ []
 unfolding added ring_after
 wait_die = refl
 
--- and the other one has its place behind no batch, as the first
-places : map (λ m. m.place) (seen (λ tx. false) (text (act 0 ∷ act 1 ∷ [])) row8).members ≡ act_place 0 1 ∷ []
+-- and the older one has its place after no batch, as the first ACT
+places : map (λ m. m.place) (seen (λ tx. false) (text (act 0 ∷ act 1 ∷ [])) meeting).members ≡ act_place 0 1 ∷ []
 unfolding added ring_after
 places = refl
 
@@ -46,7 +46,7 @@ marked : map (λ d. d.reader) (chain 0 (seen_history (seen (λ tx. true) (text (
 unfolding added ring_after
 marked = refl
 
--- the row for `leaves out finish`
+-- an ACT comes to an actor that another one has left
 abbrev twice : List Event
 twice = Submit 0 ∷ Submit 1 ∷ Admit 1 ∷ Ask 1 0 ∷ Decide 1 ∷ Seal 1 ∷ Finish 1 0 ∷ Admit 2 ∷ Ask 2 0 ∷ Decide 2 ∷ Finish 2 0 ∷ []
 
@@ -54,11 +54,11 @@ nobody_dies : (seen (λ tx. false) (text (act 0 ∷ act 0 ∷ [])) twice).dooms 
 unfolding added ring_after
 nobody_dies = refl
 
--- row 9: an ACT ahead of a batch and behind it
-abbrev row9 : List Event
-row9 = Submit 0 ∷ Admit 1 ∷ Ask 1 0 ∷ Submit 1 ∷ Form 1 ∷ Arrive 1 1 ∷ Run 1 0 ∷ Send 1 0 ∷ Ask 1 1 ∷ Arrive 1 0 ∷ []
+-- an ACT stands ahead of a batch on one actor and behind it on another
+abbrev crossed : List Event
+crossed = Submit 0 ∷ Admit 1 ∷ Ask 1 0 ∷ Submit 1 ∷ Form 1 ∷ Arrive 1 1 ∷ Run 1 0 ∷ Send 1 0 ∷ Ask 1 1 ∷ Arrive 1 0 ∷ []
 
-crosses : (seen (λ tx. false) (text (act 0 ∷ pact 0 1 ∷ [])) row9).dooms ≡ record { tid = 1; why = Crossed 1 1 0 } ∷ []
+crosses : (seen (λ tx. false) (text (act 0 ∷ pact 0 1 ∷ [])) crossed).dooms ≡ record { tid = 1; why = Crossed 1 1 0 } ∷ []
 unfolding added ring_after
 crosses = refl
 
