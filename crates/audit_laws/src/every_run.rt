@@ -1,0 +1,75 @@
+//! Of every run: what its events tell of names, how its batches commit, and the clauses of papers in order that follow from the
+//! laws of the machine.
+ghost use Rattle.std.specs.Prelude.{List};
+ghost use Rattle.protocol.specs.Events.{Event};
+ghost use Rattle.protocol.specs.Fixed.{Fixed, IsText};
+ghost use Rattle.protocol.specs.Laws.{OfEveryRun};
+ghost use Rattle.protocol.specs.Runs.{IsRun};
+ghost use Rattle.audit_words.specs.Beside.{CommitsStand};
+ghost use Rattle.audit_laws.specs.Half.{HasPlacesWhereTold, IsHalfAudited};
+ghost use Rattle.audit_laws.specs.Names.{NamesAreSeen};
+ghost use Rattle.audit_laws.specs.RunsTold.{RunsAreSeen};
+
+use protocol_laws::{
+    batches_settle_in_order, committed_are_those_with_places, frame, transactions_are_in_one_place,
+};
+use protocol_theorems::{
+    committed_transactions_are_in_order, runs_that_cannot_go_on_have_answered, sizes_hold,
+    what_is_new_is_not_there,
+};
+use protocol_verdicts::{verdicts_have_evidence, verdicts_tell_of_serial_runs};
+use run_effects::batches_are_counted;
+
+/// The events of a run tell its ring, the names of its batches and ACTs with their transactions, how far its cascades reach, and
+/// which batches settled, as the machine has them; and as many settled as the report counts.
+pub fn names_are_seen<C>()
+    ensures { (w : Fixed C) (es : List Event) → IsText w.text → IsRun w es → NamesAreSeen w es }
+{
+    frame::<C>();
+    what_is_new_is_not_there::<C>();
+    batches_are_counted::<C>();
+}
+
+/// A PACT that committed ran on an actor exactly where a Run event of the run names it there.
+pub fn runs_are_seen<C>()
+    ensures { OfEveryRun (λ (w : Fixed C) finish es. RunsAreSeen w es) }
+{
+    committed_are_those_with_places::<C>();
+}
+
+/// Batches commit in the order of their numbers, and none but an ACT is told that it failed at a place.
+pub fn commits_stand<C>()
+    ensures { OfEveryRun (λ (w : Fixed C) finish es. CommitsStand w es) }
+{
+    batches_settle_in_order::<C>();
+    committed_transactions_are_in_order::<C>();
+    verdicts_tell_of_serial_runs::<C>();
+}
+
+/// Where no event is allowed any more, the events meet the first clause; the report has a line for each transaction, for each
+/// actor, and its end; and who is told a place gives there what it is told, and the actors have the states that this leaves.
+pub fn quiet_runs_are_half_audited<C>()
+    ensures { OfEveryRun (λ (w : Fixed C) finish es. IsHalfAudited w finish es) }
+{
+    names_are_seen::<C>();
+    transactions_are_in_one_place::<C>();
+    sizes_hold::<C>();
+    committed_transactions_are_in_order::<C>();
+    runs_that_cannot_go_on_have_answered::<C>();
+    verdicts_have_evidence::<C>();
+    verdicts_tell_of_serial_runs::<C>();
+}
+
+/// Where no event is allowed any more, and the events tell who was placed and who has its place as the history has it, who is told
+/// a place has it, and who was placed before another one, but for two readers, has a place below it.
+pub fn told_places_are_audited<C>()
+    ensures { OfEveryRun (λ (w : Fixed C) finish es. HasPlacesWhereTold w es) }
+{
+    commits_stand::<C>();
+    transactions_are_in_one_place::<C>();
+    sizes_hold::<C>();
+    committed_transactions_are_in_order::<C>();
+    runs_that_cannot_go_on_have_answered::<C>();
+    verdicts_have_evidence::<C>();
+    verdicts_tell_of_serial_runs::<C>();
+}

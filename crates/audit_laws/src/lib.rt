@@ -1,0 +1,20 @@
+//! The laws on the auditor's definitions: what papers in order say of a run, and what any run that can't go on has printed, with
+//! its trace, as far as it follows from the laws of the machine. Public functions, whose contracts are the laws. `C` is the
+//! type of controls.
+#![tactic(auto)]
+
+mod every_run;
+mod papers;
+mod pieces;
+mod printed;
+
+pub use every_run::{
+    commits_stand, names_are_seen, quiet_runs_are_half_audited, runs_are_seen,
+    told_places_are_audited,
+};
+pub use papers::{audited_papers_are_serial, language_is_a_meaning, one_answer};
+pub use pieces::{
+    chains_rise_to_each, chains_tell_order, reports_have_shape, reports_tell_meaning,
+    reports_tell_places, runs_are_numbered,
+};
+pub use printed::{printed_forms_are_reports, reports_are_lines};
