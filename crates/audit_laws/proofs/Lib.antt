@@ -16,3 +16,8 @@ mod ReportTexts
 mod ReadBack
 mod Language
 mod RunsSeen
+mod Acts
+mod GivenUp
+mod Standing
+mod Simulation
+mod PlacesSeen

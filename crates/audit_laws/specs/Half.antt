@@ -31,3 +31,7 @@ pub record Places {C : Type 0} (w : Fixed C) (es : List Event) : Type 0 where
 -- where the events tell who was placed and who has its place as the history has it
 abbrev pub HasPlacesWhereTold : {C : Type 0} → Fixed C → List Event → Type 0
 HasPlacesWhereTold w es = IsQuiet w (reached w es) → TellsPlaced w.text (history w es) (seen w.code.only_reads w.text es) → Places w es
+
+-- in all
+abbrev pub HasPlaces : {C : Type 0} → Fixed C → List Event → Type 0
+HasPlaces w es = IsQuiet w (reached w es) → Places w es

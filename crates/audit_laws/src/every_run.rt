@@ -3,10 +3,12 @@
 ghost use Rattle.std.specs.Prelude.{List};
 ghost use Rattle.protocol.specs.Events.{Event};
 ghost use Rattle.protocol.specs.Fixed.{Fixed, IsText};
+ghost use Rattle.protocol.specs.History.{history};
 ghost use Rattle.protocol.specs.Laws.{OfEveryRun};
 ghost use Rattle.protocol.specs.Runs.{IsRun};
-ghost use Rattle.audit_words.specs.Beside.{CommitsStand};
-ghost use Rattle.audit_laws.specs.Half.{HasPlacesWhereTold, IsHalfAudited};
+ghost use Rattle.audit_words.specs.Beside.{CommitsStand, TellsPlaced};
+ghost use Rattle.audit_words.specs.Happenings.{seen};
+ghost use Rattle.audit_laws.specs.Half.{HasPlaces, HasPlacesWhereTold, IsHalfAudited};
 ghost use Rattle.audit_laws.specs.Names.{NamesAreSeen};
 ghost use Rattle.audit_laws.specs.RunsTold.{RunsAreSeen};
 
@@ -14,8 +16,8 @@ use protocol_laws::{
     batches_settle_in_order, committed_are_those_with_places, frame, transactions_are_in_one_place,
 };
 use protocol_theorems::{
-    committed_transactions_are_in_order, runs_that_cannot_go_on_have_answered, sizes_hold,
-    what_is_new_is_not_there,
+    actors_lie_in_order, committed_transactions_are_in_order, numbers_are_the_ends_of_sets,
+    runs_that_cannot_go_on_have_answered, sizes_hold, what_is_new_is_not_there,
 };
 use protocol_verdicts::{verdicts_have_evidence, verdicts_tell_of_serial_runs};
 use run_effects::batches_are_counted;
@@ -72,4 +74,26 @@ pub fn told_places_are_audited<C>()
     runs_that_cannot_go_on_have_answered::<C>();
     verdicts_have_evidence::<C>();
     verdicts_tell_of_serial_runs::<C>();
+}
+
+/// The events of a run tell who was placed on each actor, and who has its place, in the order of the machine's history, with the
+/// places that these have there.
+pub fn places_are_seen<C>()
+    ensures { OfEveryRun (λ (w : Fixed C) finish es. TellsPlaced w.text (history w es) (seen w.code.only_reads w.text es)) }
+{
+    runs_are_seen::<C>();
+    frame::<C>();
+    committed_are_those_with_places::<C>();
+    actors_lie_in_order::<C>();
+    numbers_are_the_ends_of_sets::<C>();
+    what_is_new_is_not_there::<C>();
+}
+
+/// Where no event is allowed any more, who is told a place has it, and who was placed before another one, but for two readers, has
+/// a place below it.
+pub fn quiet_runs_have_their_places<C>()
+    ensures { OfEveryRun (λ (w : Fixed C) finish es. HasPlaces w es) }
+{
+    told_places_are_audited::<C>();
+    places_are_seen::<C>();
 }

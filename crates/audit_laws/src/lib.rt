@@ -9,8 +9,8 @@ mod pieces;
 mod printed;
 
 pub use every_run::{
-    commits_stand, names_are_seen, quiet_runs_are_half_audited, runs_are_seen,
-    told_places_are_audited,
+    commits_stand, names_are_seen, places_are_seen, quiet_runs_are_half_audited,
+    quiet_runs_have_their_places, runs_are_seen, told_places_are_audited,
 };
 pub use papers::{audited_papers_are_serial, language_is_a_meaning, one_answer};
 pub use pieces::{
