@@ -35,3 +35,15 @@ HasPlacesWhereTold w es = IsQuiet w (reached w es) → TellsPlaced w.text (histo
 -- in all
 abbrev pub HasPlaces : {C : Type 0} → Fixed C → List Event → Type 0
 HasPlaces w es = IsQuiet w (reached w es) → Places w es
+
+-- the clauses 1 to 5 of the papers of a run
+pub record UpToEvidence {C : Type 0} (w : Fixed C) (finish : C → List State → Alone) (es : List Event) : Type 0 where
+  pub numbered : EachMeets w.text es (first_ring w.text)
+  pub shape : ShapeOf HasShape w.text (seen w.code.only_reads w.text es) (report_lines w es)
+  pub places : EachLine (TellsPlace (seen w.code.only_reads w.text es)) [] (report_lines w es)
+  pub meaning : EachLine (TellsMeaning (meaning_of w finish) w.text (report_lines w es)) [] (report_lines w es)
+  pub order : EachLine (TellsOrder (seen w.code.only_reads w.text es)) [] (report_lines w es)
+
+-- where no event is allowed any more
+abbrev pub IsAuditedUpToEvidence : {C : Type 0} → Fixed C → (C → List State → Alone) → List Event → Type 0
+IsAuditedUpToEvidence w finish es = IsQuiet w (reached w es) → UpToEvidence w finish es

@@ -8,7 +8,7 @@ ghost use Rattle.protocol.specs.Laws.{OfEveryRun};
 ghost use Rattle.protocol.specs.Runs.{IsRun};
 ghost use Rattle.audit_words.specs.Beside.{CommitsStand, TellsPlaced};
 ghost use Rattle.audit_words.specs.Happenings.{seen};
-ghost use Rattle.audit_laws.specs.Half.{HasPlaces, HasPlacesWhereTold, IsHalfAudited};
+ghost use Rattle.audit_laws.specs.Half.{HasPlaces, HasPlacesWhereTold, IsAuditedUpToEvidence, IsHalfAudited};
 ghost use Rattle.audit_laws.specs.Names.{NamesAreSeen};
 ghost use Rattle.audit_laws.specs.RunsTold.{RunsAreSeen};
 
@@ -96,4 +96,14 @@ pub fn quiet_runs_have_their_places<C>()
 {
     told_places_are_audited::<C>();
     places_are_seen::<C>();
+}
+
+/// Where no event is allowed any more, the papers of the run meet the first five clauses. Its events are numbered, and its report
+/// has its shape. Who is told a place has it, gives there what it is told, and has it above the places of those that were placed
+/// before it, but for two readers.
+pub fn quiet_runs_are_audited_up_to_evidence<C>()
+    ensures { OfEveryRun (λ (w : Fixed C) finish es. IsAuditedUpToEvidence w finish es) }
+{
+    quiet_runs_are_half_audited::<C>();
+    quiet_runs_have_their_places::<C>();
 }
