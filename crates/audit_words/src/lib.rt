@@ -3,6 +3,6 @@
 //! stands before whom; `Papers`, the parts of an input and the lines of a report; `Clauses`, what a line has to say;
 //! `Audited`, the six clauses, which of them is false first, and where; `Inputs`, an input as bytes, and the first thing that
 //! is wrong with it; `Serial`, what papers in order say; `Reports`, what any run that can't go on has printed; `Beside`, what
-//! of a run the laws of acceptance rest on. Rows that were worked out by hand are computed in `proofs/WorkedRows.antt`. No code
-//! stands here.
+//! of a run the laws of acceptance rest on. Rows that were worked out by hand are computed in `proofs/WorkedRows.antt`. The laws
+//! are in audit_laws. No code stands here.
 #![tactic(auto)]
