@@ -19,5 +19,12 @@ mod RunsSeen
 mod Acts
 mod GivenUp
 mod Standing
+mod Simulated
+mod SimulatedLists
+mod SimulatedLeaving
+mod SimulatedStill
+mod SimulatedComing
+mod SimulatedPlaces
+mod SimulatedGoing
 mod Simulation
 mod PlacesSeen

@@ -22,7 +22,8 @@ use Rattle.audit_words.specs.Beside.{TellsPlaced}
 use Rattle.audit_words.specs.Happenings.{seen}
 use Rattle.audit_laws.specs.RunsTold.{RunsAreSeen}
 use Rattle.audit_laws.proofs.NamesSeen.{Frames}
-use Rattle.audit_laws.proofs.Simulation.{SimFacts, places_seen}
+use Rattle.audit_laws.proofs.Simulated.{SimFacts}
+use Rattle.audit_laws.proofs.Simulation.{places_seen}
 
 -- what the laws of the machine say of each run
 pub record Laws {C : Type 0} (w : Fixed C) (finish : C → List State → Alone) : Type 0 where
