@@ -6,15 +6,15 @@ use Rattle.protocol.specs.Words.{is_failure, is_live_status, is_vouched_everywhe
 use Rattle.protocol.specs.Effects.{ascending}
 
 -- the number of an ACT's commit, once it has one
-abbrev pub commit_number_of : Status → Option ℕ
-commit_number_of Live = None
-commit_number_of (Doomed why) = None
-commit_number_of (Decided c) = Some c
-commit_number_of (Sealed c) = Some c
+abbrev pub commit_number_if_decided : Status → Option ℕ
+commit_number_if_decided Live = None
+commit_number_if_decided (Doomed why) = None
+commit_number_if_decided (Decided c) = Some c
+commit_number_if_decided (Sealed c) = Some c
 
 abbrev pub number_by : Option Act → Option ℕ
 number_by None = None
-number_by (Some x) = commit_number_of x.status
+number_by (Some x) = commit_number_if_decided x.status
 
 -- the actors that it joined, as its commit record has them
 abbrev pub actors_by : Option Act → List ℕ

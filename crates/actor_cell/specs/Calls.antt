@@ -1,7 +1,7 @@
 -- What the calls of a cell do to its store, where the machine has no word for it.
 use Rattle.std.specs.Prelude.{ℕ, nat_le, Bool, not, if◌then◌else◌, Some, filter, find}
 use Rattle.protocol.specs.Meant.{who_meant}
-use Rattle.protocol.specs.CellParts.{Store}
+use Rattle.protocol.specs.CellParts.{Store, without_image}
 use Rattle.protocol.specs.OnCell.{state_from, is_undone_act, raised_floors}
 use Rattle.protocol.specs.Parts.{Act, Who, OfBatch, OfAct}
 use Rattle.protocol.specs.Words.{is_who, is_sealed, image_of}
@@ -26,9 +26,6 @@ undone_from k acts s = record s {
 
 abbrev pub restored : Who → Store → Store
 restored who s = record s { state = state_from s.state (image_of who s.images) }
-
-abbrev pub without_image : Who → Store → Store
-without_image who s = record s { images = filter (λ i. not (is_who who i.who)) s.images }
 
 -- the floor of one that only reads, or of others, rises to this number
 abbrev pub with_floor_raised : Bool → ℕ → Store → Store

@@ -3,6 +3,7 @@ ghost use Rattle.std.specs.Prelude.{◌≡◌, ◌<◌, false, [], length, not, 
 ghost use Rattle.protocol.specs.Meant.{who_meant};
 ghost use Rattle.protocol.specs.CellParts.{without_image};
 ghost use Rattle.protocol.specs.OnCell.{with_image, raised_floors, state_from};
+ghost use Rattle.protocol.specs.Parts.{OfBatch};
 ghost use Rattle.protocol.specs.Words.{floor_for, image_of, is_who};
 ghost use Rattle.actor_cell.specs.Calls.{undone_from};
 
@@ -99,7 +100,7 @@ impl Cell {
 
     /// The image of batch `bid`, which is settled, goes back. Where it has none, nothing changes.
     pub fn trim(&mut self, bid: Bid)
-        ensures { self.new ≡ without_image bid.0 self.old }
+        ensures { self.new ≡ without_image (OfBatch bid.0) self.old }
     {
         self.finish_entry(Who::Batch(bid));
     }

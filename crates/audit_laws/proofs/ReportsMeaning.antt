@@ -29,7 +29,7 @@ use Rattle.protocol_theorems.proofs.Lemmas.{all_sorted, rises_sorted}
 use Rattle.audit_words.specs.Papers.{Line, Reply, Actor, End, Kept, Recovered}
 use Rattle.audit_words.specs.Clauses.{Meaning, LeavesNothing, serial, done_at, located_by, located, world_after, world_behind, given, given_to, given_in, last_world, TellsMeaning}
 use Rattle.audit_words.specs.Audited.{EachLine}
-use Rattle.audit_words.specs.Serial.{TellsState, txs}
+use Rattle.audit_words.specs.Serial.{LineTellsState, txs}
 use Rattle.audit_words.specs.Reports.{actor_lines, report_lines, meaning_of, AllReplied, AnswersStand, IsDoneAt, CommittedStand}
 use Rattle.audit_laws.proofs.LinesTell.{TxsDiffer, differ_sorted, located_once}
 use Rattle.audit_laws.proofs.RunsAsSaid.{AsSaid, leaves, all_results, found_first, found_behind}
@@ -255,7 +255,7 @@ whatever_behind m w all front (Actor a fields) h = h
 whatever_behind m w all front _ h = tt
 
 lines_tell : (m : Meaning) (w : Text) (all : List Line) → ((d : Done) → IsIn d (located all) → given_to d.tx (given_in m w all) ≡ d.result) → (ls : List Line) → ((d : Done) → IsIn d (located ls) → IsIn d (located all))
-    → AllByRecursion (TellsState (last_world m w all)) ls → AllByRecursion (λ l. TellsMeaning m w all [] l) ls
+    → AllByRecursion (LineTellsState (last_world m w all)) ls → AllByRecursion (λ l. TellsMeaning m w all [] l) ls
 lines_tell m w all g [] f h = tt
 lines_tell m w all g (Reply n (verdicts.Committed q v) ∷ ls) f h = (g (done_at n q (Value v)) (f (done_at n q (Value v)) (inl refl)), lines_tell m w all g ls (λ d i. f d (inr i)) h.1)
 lines_tell m w all g (Reply n (verdicts.Code q c) ∷ ls) f h = (g (done_at n q (Fail c)) (f (done_at n q (Fail c)) (inl refl)), lines_tell m w all g ls (λ d i. f d (inr i)) h.1)
@@ -269,11 +269,11 @@ at_join : (front : List State) (x : State) (rest : List State) → slice_index_o
 at_join [] x rest = refl
 at_join (y ∷ front) x rest = at_join front x rest
 
-actors_tell : (front states : List State) (a : ℕ) → a ≡ length front → AllByRecursion (TellsState (front ++ states)) (actor_lines a states)
+actors_tell : (front states : List State) (a : ℕ) → a ≡ length front → AllByRecursion (LineTellsState (front ++ states)) (actor_lines a states)
 actors_tell front [] a e = tt
 actors_tell front (x ∷ states) a e = (
   ap (λ (s : State). shown_fields s.0) (sym (ap (λ (i : ℕ). slice_index_or (front ++ x ∷ states) i no_state) e ∙ at_join front x states)),
-  subst (λ (z : List State). AllByRecursion (TellsState z) (actor_lines (a + 1) states)) (assoc front) (actors_tell (front ++ x ∷ []) states (a + 1) (omega (arith, e, longer front))),
+  subst (λ (z : List State). AllByRecursion (LineTellsState z) (actor_lines (a + 1) states)) (assoc front) (actors_tell (front ++ x ∷ []) states (a + 1) (omega (arith, e, longer front))),
 )
   where
     assoc : (xs : List State) → (xs ++ x ∷ []) ++ states ≡ xs ++ x ∷ states
@@ -284,7 +284,7 @@ actors_tell front (x ∷ states) a e = (
     longer [] = omega arith
     longer (y ∷ xs) = omega (arith, longer xs)
 
-said_tell : {C : Type 0} (world : List State) (s : Machine C) (ns : List ℕ) → AllByRecursion (TellsState world) (map (said s) ns)
+said_tell : {C : Type 0} (world : List State) (s : Machine C) (ns : List ℕ) → AllByRecursion (LineTellsState world) (map (said s) ns)
 said_tell world s [] = tt
 said_tell world s (n ∷ ns) = (tt, said_tell world s ns)
 
@@ -324,9 +324,9 @@ meaning_told {C} w finish es k x y z differ =
     λ d i. ap (λ (zs : List Done). given_to d.tx (given m w.text opens zs)) told ∙ given_in_list m w.text opens (by_place ds) d (differ_sorted ds differ) said1 (in_sorted d ds (subst (IsIn d) there i)) in
     each_from_all (TellsMeaning m w.text ls) (λ (l : Line). TellsMeaning m w.text ls [] l) (whatever_behind m w.text ls) [] ls
     (lines_tell m w.text ls gives ls (λ d i. i)
-    (subst (λ (u : List State). AllByRecursion (TellsState u) ls) (sym world)
-    (all_join (TellsState states) (map (said s) (replied es)) (actor_lines 0 states ++ End x y z ∷ []) (said_tell states s (replied es))
-    (all_join (TellsState states) (actor_lines 0 states) (End x y z ∷ []) (actors_tell [] states 0 refl) (tt, tt)))))
+    (subst (λ (u : List State). AllByRecursion (LineTellsState u) ls) (sym world)
+    (all_join (LineTellsState states) (map (said s) (replied es)) (actor_lines 0 states ++ End x y z ∷ []) (said_tell states s (replied es))
+    (all_join (LineTellsState states) (actor_lines 0 states) (End x y z ∷ []) (actors_tell [] states 0 refl) (tt, tt)))))
 
 pub reports_tell_meaning : {C : Type 0} (w : Fixed C) (finish : C → List State → Alone) (es : List Event) → IsRun w es → AnswersStand w es → AllReplied w es → CommittedStand w finish es
     → EachLine (TellsMeaning (meaning_of w finish) w.text (report_lines w es)) [] (report_lines w es)

@@ -13,7 +13,7 @@ use Rattle.audit_words.specs.Happenings.{seen}
 use Rattle.audit_words.specs.Papers.{Line, Actor}
 use Rattle.audit_words.specs.Clauses.{Language, Meaning, LeavesNothing, serial, located, given, given_to, given_in, world_after, world_behind, last_world, TellsMeaning}
 use Rattle.audit_words.specs.Audited.{Audited}
-use Rattle.audit_words.specs.Serial.{txs, told, TellsState, PrintedIsSerial}
+use Rattle.audit_words.specs.Serial.{txs, told, LineTellsState, PrintedIsSerial}
 use Rattle.protocol_theorems.proofs.Lemmas.{all_sorted}
 use Rattle.audit_laws.proofs.LinesTell.{all_lines, whatever_before, IsGiven, located_given, TxsDiffer, located_once, differ_sorted}
 
@@ -89,7 +89,7 @@ kept_results m w world (d ∷ ds) h = by (is_value d.result) (kept_results m w (
 
 -- ---- the law
 
-to_state : (m : Meaning) (w : Text) (all front : List Line) (l : Line) → TellsMeaning m w all front l → TellsState (last_world m w all) l
+to_state : (m : Meaning) (w : Text) (all front : List Line) (l : Line) → TellsMeaning m w all front l → LineTellsState (last_world m w all) l
 to_state m w all front (Actor a fields) h = h
 to_state m w all front _ h = tt
 
@@ -103,7 +103,7 @@ papers_are_serial p w es ls f a =
     let k = all_results m f w w.opening.states (told ls) q in
     record {
       results = c.0;
-      states = subst (λ (z : List State). AllByRecursion (TellsState z) ls) (sym c.1) (all_lines (TellsMeaning m w ls) (TellsState (last_world m w ls)) (to_state m w ls) [] ls a.meaning);
+      states = subst (λ (z : List State). AllByRecursion (LineTellsState z) ls) (sym c.1) (all_lines (TellsMeaning m w ls) (LineTellsState (last_world m w ls)) (to_state m w ls) [] ls a.meaning);
       with_failures = k.0;
       same_world = k.1 ∙ sym c.1;
     }

@@ -26,16 +26,16 @@ abbrev pub committed : List Line → List Done
 committed ls = filter (λ d. is_value d.result) (told ls)
 
 -- the line of an actor tells its state in this world
-abbrev pub TellsState : List State → Line → Type 0
-TellsState world (Actor a fields) = fields ≡ shown_fields (state_in world a).0
-TellsState world _ = Unit {0}
+abbrev pub LineTellsState : List State → Line → Type 0
+LineTellsState world (Actor a fields) = fields ≡ shown_fields (state_in world a).0
+LineTellsState world _ = Unit {0}
 
 -- What is printed is a serial run.
 pub record PrintedIsSerial (m : Meaning) (w : Text) (ls : List Line) : Type 0 where
   -- the committed, one by one, give just the values that are printed
   pub results : map Some (serial m w.opening.states (txs w (committed ls))).results ≡ map (λ d. d.result) (committed ls)
   -- and leave just the states that are printed
-  pub states : AllByRecursion (TellsState (serial m w.opening.states (txs w (committed ls))).world) ls
+  pub states : AllByRecursion (LineTellsState (serial m w.opening.states (txs w (committed ls))).world) ls
   -- with those among them that failed by their own code, which leave nothing, each gives just what is printed
   pub with_failures : map Some (serial m w.opening.states (txs w (told ls))).results ≡ map (λ d. d.result) (told ls)
   pub same_world : (serial m w.opening.states (txs w (told ls))).world ≡ (serial m w.opening.states (txs w (committed ls))).world

@@ -9,10 +9,10 @@ use Rattle.protocol.specs.Parts.{Stage, Batch}
 use Rattle.protocol.specs.Words.{holds, is_formed, is_committing, is_settled, batch_of, is_open, is_next_to_commit}
 use Rattle.protocol.specs.OnDesk.{with_stage, taken}
 use Rattle.protocol.specs.Numbers.{from}
-use Rattle.batch_table.specs.Askings.{is_next, awaits_settling}
+use Rattle.batch_table.specs.Askings.{is_next_open, awaits_settling}
 use Rattle.batch_table.specs.Joining.{bids_of}
 use Rattle.batch_table.specs.Places.{IsPlaceOfBatch, gone}
-use Rattle.batch_table.specs.Sound.{standing_of, standings_of, IsBatchOver, IsOpen, IsFrontCount}
+use Rattle.batch_table.specs.Sound.{batch_standing, standings_of, IsBatchOver, IsOpen, IsFrontCount}
 use Rattle.batch_table.proofs.ByNumber.{cons_parts, cons_same, missing_below}
 
 -- ---- stages and marks
@@ -32,10 +32,10 @@ committing_not_settled stages.Formed e = refl
 committing_not_settled stages.Committing e = refl
 committing_not_settled stages.Settled e = sym e
 
-not_over : (b : Batch) → b.aborted ≡ false → is_settled b.stage ≡ false → IsBatchOver (standing_of b) → ⊥
+not_over : (b : Batch) → b.aborted ≡ false → is_settled b.stage ≡ false → IsBatchOver (batch_standing b) → ⊥
 not_over b a s o = false≢true (sym (or_from b.aborted (is_settled b.stage) a s) ∙ o)
 
-open_not_over : (b : Batch) → is_open b ≡ true → IsBatchOver (standing_of b) → ⊥
+open_not_over : (b : Batch) → is_open b ≡ true → IsBatchOver (batch_standing b) → ⊥
 open_not_over b h o =
     let parts = and_parts (is_formed b.stage) (not b.aborted) h in
     not_over b (not-true b.aborted parts.1) (formed_not_settled b.stage parts.0) o
@@ -76,7 +76,7 @@ smaller_over k low (suc i) (suc n) (b ∷ bs) e f q l =
 
 -- the batch at a place is the next to go on exactly where it is open and no further than the front
 pub next_at : (k base i front : ℕ) (b : Batch) (bs : List Batch) → bids_of bs ≡ from (base + 1) (length bs) → IsFrontCount front (standings_of bs) → IsPlaceOfBatch k i bs → k ≡ base + 1 + i → slice_get bs i ≡ Some b
-    → is_next k bs ≡ (is_open b && nat_le i front)
+    → is_next_open k bs ≡ (is_open b && nat_le i front)
 next_at k base i front b bs e f p q g =
     ap (λ o. holds (λ b. is_open b && is_next_to_commit k bs) o) (p.found ∙ g)
     ∙ ap (λ v. is_open b && v) (smaller_over k (base + 1) i front bs e f q p.within)
@@ -111,7 +111,7 @@ open_at_front k low (suc n) (b ∷ bs) e f op nx =
     (omega (arith, later.0), omega (arith, later.1)))
     op
 
-pub next_is_front : (k base front : ℕ) (bs : List Batch) → bids_of bs ≡ from (base + 1) (length bs) → IsFrontCount front (standings_of bs) → is_next k bs ≡ true → (k ≡ base + 1 + front) × (front < length bs)
+pub next_is_front : (k base front : ℕ) (bs : List Batch) → bids_of bs ≡ from (base + 1) (length bs) → IsFrontCount front (standings_of bs) → is_next_open k bs ≡ true → (k ≡ base + 1 + front) × (front < length bs)
 next_is_front k base front bs e f h =
     let parts = holds_parts (is_next_to_commit k bs) (batch_of k bs) h in
     open_at_front k (base + 1) front bs e f parts.0 parts.1
@@ -148,11 +148,11 @@ settling_is_front k base front bs e f s = committing_at_front k (base + 1) front
 
 -- ---- the front after a batch joined, began to commit, settled, or took the rest along
 
-open_joined : (b : Batch) (xs : List Batch) → IsOpen (standing_of b) → AllByRecursion IsOpen (standings_of xs) → AllByRecursion IsOpen (standings_of (xs ++ b ∷ []))
+open_joined : (b : Batch) (xs : List Batch) → IsOpen (batch_standing b) → AllByRecursion IsOpen (standings_of xs) → AllByRecursion IsOpen (standings_of (xs ++ b ∷ []))
 open_joined b [] o h = (o, tt)
 open_joined b (x ∷ xs) o h = (h.0, open_joined b xs o h.1)
 
-pub front_joined : (front : ℕ) (b : Batch) (bs : List Batch) → IsOpen (standing_of b) → IsFrontCount front (standings_of bs) → IsFrontCount front (standings_of (bs ++ b ∷ []))
+pub front_joined : (front : ℕ) (b : Batch) (bs : List Batch) → IsOpen (batch_standing b) → IsFrontCount front (standings_of bs) → IsFrontCount front (standings_of (bs ++ b ∷ []))
 front_joined zero b [] o f = ((o.0, formed_not_settled b.stage o.1), tt)
 front_joined (suc n) b [] o f = absurd f
 front_joined zero b (x ∷ xs) o f = (f.0, open_joined b xs o f.1)

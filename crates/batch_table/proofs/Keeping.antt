@@ -13,10 +13,10 @@ use Rattle.protocol.specs.Words.{holds, count, is_live_batch, is_settled, batch_
 use Rattle.protocol.specs.OnDesk.{change_if, changed_batch, marked, is_noted, is_trimmed, with_stage, taken, with_result, with_results}
 use Rattle.protocol.specs.Numbers.{from, flat, one_if}
 use Rattle.batch_table.specs.declared.spots.Spot.{Spot}
-use Rattle.batch_table.specs.Askings.{is_next, may_commit, has_ended_well, is_noted_everywhere, awaits_settling, awaits_trim}
+use Rattle.batch_table.specs.Askings.{is_next_open, may_commit, has_ended_well, is_noted_everywhere, awaits_settling, awaits_trim}
 use Rattle.batch_table.specs.Joining.{bids_of, pact_tids, batch_tids, pact_txs, batch_txs, first_number, first_or_zero, AreConsecutive, AllTidsBelow, AllTxsBelow, EachTxOnce}
 use Rattle.batch_table.specs.Places.{IsPlaceOfBatch, gone, is_live_with_trim}
-use Rattle.batch_table.specs.Sound.{TidsAscend, IsFrontCount, IsOpen, standing_of, standings_of, IsSoundDesk}
+use Rattle.batch_table.specs.Sound.{TidsAscend, IsFrontCount, IsOpen, batch_standing, standings_of, IsSoundDesk}
 use Rattle.batch_table.specs.Spots.{with_spots, AreSpotted}
 use Rattle.batch_table.proofs.ByNumber.{cons_parts, cons_same, no_batch, is_place, nowhere_below, nowhere_above, changed_at_place}
 use Rattle.batch_table.proofs.BySpot.{length_written, written, spotted_joined}
@@ -85,7 +85,7 @@ ended_sound t r base bs ws settled replied spots live front s e =
     sound_mapped (with_results t r) base bs ws settled settled replied spots live live front front s
     (record { bid = λ b. refl; tids = ended_tids t r; txs = ended_txs t r }) e s.begun
     (s.counted ∙ sym (ap (λ z. count is_live_batch z) e ∙ count_same is_live_batch (with_results t r) (λ b. refl) bs))
-    (subst (λ z. IsFrontCount front z) (sym (ap standings_of e ∙ mapped standing_of (with_results t r) (λ b. refl) bs)) s.parted)
+    (subst (λ z. IsFrontCount front z) (sym (ap standings_of e ∙ mapped batch_standing (with_results t r) (λ b. refl) bs)) s.parted)
 
 pub noted_sound : (k a base : ℕ) (bs ws : List Batch) (settled : ℕ) (replied : List Bool) (spots : List Spot) (live front : ℕ)
     → IsSoundDesk base bs settled replied spots live front → ws ≡ changed_batch k (marked a is_noted) bs → IsSoundDesk base ws settled replied spots live front
@@ -94,7 +94,7 @@ noted_sound k a base bs ws settled replied spots live front s e =
     sound_mapped f base bs ws settled settled replied spots live live front front s
     (changed_keeps k (marked a is_noted) (record { bid = λ b. refl; tids = λ b. refl; txs = λ b. refl })) e s.begun
     (s.counted ∙ sym (ap (λ z. count is_live_batch z) e ∙ count_same is_live_batch f (λ b. change_keeps is_live_batch (marked a is_noted) (b.bid == k) b (noted_live a b)) bs))
-    (subst (λ z. IsFrontCount front z) (sym (ap standings_of e ∙ mapped standing_of f (λ b. change_keeps standing_of (marked a is_noted) (b.bid == k) b refl) bs)) s.parted)
+    (subst (λ z. IsFrontCount front z) (sym (ap standings_of e ∙ mapped batch_standing f (λ b. change_keeps batch_standing (marked a is_noted) (b.bid == k) b refl) bs)) s.parted)
 
 -- ---- a batch goes on
 
@@ -107,7 +107,7 @@ stage_counted k st bs = count_same is_live_batch (λ b. change_if (b.bid == k) (
 pub committing_sound : (k base : ℕ) (bs ws : List Batch) (settled : ℕ) (replied : List Bool) (spots : List Spot) (live front : ℕ)
     → IsSoundDesk base bs settled replied spots live front → may_commit k bs ≡ true → ws ≡ changed_batch k (with_stage stages.Committing) bs → IsSoundDesk base ws settled replied spots live front
 committing_sound k base bs ws settled replied spots live front s h e =
-    let at = next_is_front k base front bs s.numbered s.parted (and_parts (is_next k bs) (has_ended_well k bs && is_noted_everywhere k bs) h).0 in
+    let at = next_is_front k base front bs s.numbered s.parted (and_parts (is_next_open k bs) (has_ended_well k bs && is_noted_everywhere k bs) h).0 in
     sound_mapped (λ b. change_if (b.bid == k) (with_stage stages.Committing) b) base bs ws settled settled replied spots live live front front s
     (changed_keeps k (with_stage stages.Committing) (stage_keeps stages.Committing)) e s.begun
     (s.counted ∙ sym (ap (λ z. count is_live_batch z) e ∙ stage_counted k stages.Committing bs))
@@ -127,12 +127,12 @@ settled_sound k base bs ws settled replied spots live front s h e =
 
 -- ---- the rest is taken along
 
-pub taken_from_front : (k base front : ℕ) (bs ws : List Batch) → bids_of bs ≡ from (base + 1) (length bs) → IsFrontCount front (standings_of bs) → is_next k bs ≡ true → ws ≡ take front bs ++ map gone (drop front bs) → ws ≡ map (taken k) bs
+pub taken_from_front : (k base front : ℕ) (bs ws : List Batch) → bids_of bs ≡ from (base + 1) (length bs) → IsFrontCount front (standings_of bs) → is_next_open k bs ≡ true → ws ≡ take front bs ++ map gone (drop front bs) → ws ≡ map (taken k) bs
 taken_from_front k base front bs ws numbered parted h e =
     e ∙ sym (taken_split k (base + 1) front bs numbered (next_is_front k base front bs numbered parted h).0)
 
 pub aborted_sound : (k base : ℕ) (bs ws : List Batch) (settled : ℕ) (replied : List Bool) (spots : List Spot) (live live' front front' : ℕ)
-    → IsSoundDesk base bs settled replied spots live front → is_next k bs ≡ true → ws ≡ take front bs ++ map gone (drop front bs) → live' + count is_live_batch (drop front bs) ≡ live → front' ≡ length bs
+    → IsSoundDesk base bs settled replied spots live front → is_next_open k bs ≡ true → ws ≡ take front bs ++ map gone (drop front bs) → live' + count is_live_batch (drop front bs) ≡ live → front' ≡ length bs
     → IsSoundDesk base ws settled replied spots live' front'
 aborted_sound k base bs ws settled replied spots live live' front front' s h e counted ends =
     let at = next_is_front k base front bs s.numbered s.parted h in
@@ -180,7 +180,7 @@ trimmed_sound k a base bs ws settled replied spots live live' front s h e counte
     sound_mapped f base bs ws settled settled replied spots live live' front front s
     (changed_keeps k (marked a is_trimmed) (record { bid = λ b. refl; tids = λ b. refl; txs = λ b. refl })) e s.begun
     (omega (arith, counted, s.counted, ap (λ z. count is_live_batch z) e, trim_counted k a base bs s.numbered h))
-    (subst (λ z. IsFrontCount front z) (sym (ap standings_of e ∙ mapped standing_of f (λ b. change_keeps standing_of (marked a is_trimmed) (b.bid == k) b refl) bs)) s.parted)
+    (subst (λ z. IsFrontCount front z) (sym (ap standings_of e ∙ mapped batch_standing f (λ b. change_keeps batch_standing (marked a is_trimmed) (b.bid == k) b refl) bs)) s.parted)
 
 -- ---- a batch joins
 
@@ -231,7 +231,7 @@ spots_sound base ps bs settled replied spots live front s within once = record {
   parted = s.parted;
 }
 
-open_mark : (b : Batch) → is_open b ≡ true → IsOpen (standing_of b)
+open_mark : (b : Batch) → is_open b ≡ true → IsOpen (batch_standing b)
 open_mark b h = let parts = and_parts (is_formed b.stage) (not b.aborted) h in (not-true b.aborted parts.1, parts.0)
 
 pub joined_sound : (base : ℕ) (b : Batch) (bs : List Batch) (settled : ℕ) (replied : List Bool) (spots : List Spot) (live live' front : ℕ)

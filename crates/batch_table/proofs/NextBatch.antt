@@ -7,7 +7,7 @@ use Rattle.std.proofs.lemmas.Option.{slice_get_within}
 use Rattle.protocol.specs.Parts.{Batch}
 use Rattle.protocol.specs.Words.{holds, is_committing, is_formed, is_settled, batch_of, is_open, is_next_to_commit}
 use Rattle.protocol.specs.Numbers.{from}
-use Rattle.batch_table.specs.Askings.{is_next, awaits_settling}
+use Rattle.batch_table.specs.Askings.{is_next_open, awaits_settling}
 use Rattle.batch_table.specs.Joining.{bids_of}
 use Rattle.batch_table.specs.Listed.{unnoted_at, unnoted_in}
 use Rattle.batch_table.specs.Sound.{standings_of, IsFrontCount}
@@ -32,7 +32,7 @@ bid_at low (suc i) b (x ∷ bs) e g =
 
 -- who is at the front goes on where it is open
 front_goes_on : (k base front : ℕ) (bs : List Batch) (o : Option Batch) → bids_of bs ≡ from (base + 1) (length bs) → IsFrontCount front (standings_of bs) → slice_get bs front ≡ o
-    → holds (λ b. is_open b && (b.bid == k)) o ≡ true → is_next k bs ≡ true
+    → holds (λ b. is_open b && (b.bid == k)) o ≡ true → is_next_open k bs ≡ true
 front_goes_on k base front bs None e f g h = absurd (false≢true h)
 front_goes_on k base front bs (Some b) e f g h =
     let parts = and_parts (is_open b) (b.bid == k) h in
@@ -41,7 +41,7 @@ front_goes_on k base front bs (Some b) e f g h =
     ∙ and_from (is_open b) (nat_le front front) parts.0 (le-leb front front (omega arith))
 
 goes_on_at_front : (k base front : ℕ) (bs : List Batch) (o : Option Batch) → bids_of bs ≡ from (base + 1) (length bs) → IsFrontCount front (standings_of bs) → slice_get bs front ≡ o
-    → is_next k bs ≡ true → holds (λ b. is_open b && (b.bid == k)) o ≡ true
+    → is_next_open k bs ≡ true → holds (λ b. is_open b && (b.bid == k)) o ≡ true
 goes_on_at_front k base front bs o e f g h =
     let at = next_is_front k base front bs e f h in
     by o (found_at_place k (base + 1) front bs e at.0 ∙ g) g
@@ -53,9 +53,9 @@ goes_on_at_front k base front bs o e f g h =
         and_from (is_open b) (b.bid == k) parts.0 (eq-eqb b.bid k (bid_at (base + 1) front b bs e i ∙ sym (next_is_front k base front bs e f h).0))
 
 pub next_at_front : (k base front : ℕ) (bs : List Batch) → bids_of bs ≡ from (base + 1) (length bs) → IsFrontCount front (standings_of bs)
-    → is_next k bs ≡ holds (λ b. is_open b && (b.bid == k)) (slice_get bs front)
+    → is_next_open k bs ≡ holds (λ b. is_open b && (b.bid == k)) (slice_get bs front)
 next_at_front k base front bs e f =
-    one_bool (is_next k bs) (holds (λ b. is_open b && (b.bid == k)) (slice_get bs front)) (goes_on_at_front k base front bs (slice_get bs front) e f refl) (front_goes_on k base front bs (slice_get bs front) e f refl)
+    one_bool (is_next_open k bs) (holds (λ b. is_open b && (b.bid == k)) (slice_get bs front)) (goes_on_at_front k base front bs (slice_get bs front) e f refl) (front_goes_on k base front bs (slice_get bs front) e f refl)
 
 -- ---- who commits is at the front
 

@@ -17,29 +17,29 @@ TidsAscend low (ts ∷ tss) = (low ≤ first_or_zero ts) × (0 < length ts) × A
 -- ---- the front: how many batches are over, all of them ahead of all others
 
 -- whether a batch is aborted, and how far it is
-pub record Standing : Type 0 where
+pub record BatchStanding : Type 0 where
   pub aborted : Bool
   pub stage : Stage
 
-abbrev pub standing_of : Batch → Standing
-standing_of b = record { aborted = b.aborted; stage = b.stage }
+abbrev pub batch_standing : Batch → BatchStanding
+batch_standing b = record { aborted = b.aborted; stage = b.stage }
 
-abbrev pub standings_of : List Batch → List Standing
-standings_of batches = map standing_of batches
+abbrev pub standings_of : List Batch → List BatchStanding
+standings_of batches = map batch_standing batches
 
-abbrev pub IsBatchOver : Standing → Type 0
+abbrev pub IsBatchOver : BatchStanding → Type 0
 IsBatchOver m = (m.aborted || is_settled m.stage) ≡ true
 
 -- under way
-abbrev pub IsNotOver : Standing → Type 0
+abbrev pub IsNotOver : BatchStanding → Type 0
 IsNotOver m = (m.aborted ≡ false) × (is_settled m.stage ≡ false)
 
 -- formed, and nothing else
-abbrev pub IsOpen : Standing → Type 0
+abbrev pub IsOpen : BatchStanding → Type 0
 IsOpen m = (m.aborted ≡ false) × (is_formed m.stage ≡ true)
 
 -- the first so many are over, the next one is not, and those behind it are open
-abbrev pub IsFrontCount : ℕ → List Standing → Type 0
+abbrev pub IsFrontCount : ℕ → List BatchStanding → Type 0
 IsFrontCount zero [] = ⊤
 IsFrontCount (suc n) [] = ⊥
 IsFrontCount zero (m ∷ ms) = IsNotOver m × AllByRecursion IsOpen ms

@@ -144,7 +144,7 @@ impl Desk {
 
     /// Whether the batch is open, and each smaller one is settled or aborted.
     pub fn is_next(&self, bid: Bid) -> bool
-        ensures { result ≡ askings.is_next bid.0 self.now.batches }
+        ensures { result ≡ askings.is_next_open bid.0 self.now.batches }
     {
         table::is_next(self.batches.as_slice(), self.base, self.front, bid)
     }
@@ -239,7 +239,7 @@ impl Desk {
 
     /// Batch `bid`, which is the next one, and all later ones are aborted.
     pub fn abort_from(&mut self, bid: Bid)
-        requires next { IsTrue (askings.is_next bid.0 self.old.batches) }
+        requires next { IsTrue (askings.is_next_open bid.0 self.old.batches) }
         requires failed { IsTrue (askings.has_failed_pact bid.0 self.old.batches) }
         ensures { self.new ≡ desk.batches_aborted bid.0 self.old }
     {

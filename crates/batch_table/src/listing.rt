@@ -45,7 +45,7 @@ impl Desk {
 
     /// The batch that is the next to commit or to be aborted: it is open, and each smaller one is settled or aborted.
     pub fn next(&self) -> Option<Bid>
-        ensures { (k : ℕ) → askings.is_next k self.now.batches ≡ is_number k result }
+        ensures { (k : ℕ) → askings.is_next_open k self.now.batches ≡ is_number k result }
     {
         open_at(self.batches.as_slice(), self.front)
     }

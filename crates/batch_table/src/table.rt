@@ -49,7 +49,7 @@ pub(crate) fn batch_of(batches: &[BatchEntry], base: u64, bid: Bid) -> Option<&B
 pub(crate) fn is_next(batches: &[BatchEntry], base: u64, front: usize, bid: Bid) -> bool
     requires numbered { bids_of batches.now ≡ from (base + 1) (length batches.now) }
     requires parted { IsFrontCount front (standings_of batches.now) }
-    ensures { result ≡ askings.is_next bid.0 batches.now }
+    ensures { result ≡ askings.is_next_open bid.0 batches.now }
 {
     match place_of(batches, base, bid) {
         Some(place) => batches[place].is_open() && place <= front,

@@ -14,7 +14,7 @@ use Rattle.protocol_theorems.specs.BookFits.{IsVoted, IsVotedBy, act_with, place
 use Rattle.protocol_theorems.proofs.Lemmas.{found_by, live_count, place_actor, verdict_of}
 use Rattle.book_part.proofs.Mapped.{map_each}
 use Rattle.order_book.specs.Asked.{before_of, doom_in, tid_of_act}
-use Rattle.act_commit.specs.Words.{actors_by, number_by, commit_number_of}
+use Rattle.act_commit.specs.Words.{actors_by, number_by, commit_number_if_decided}
 use Rattle.book_part.specs.Halves.{Halves, Shows}
 use Rattle.book_part.specs.Told.{told_verdict, sealed_verdict, doom_or_votes}
 use Rattle.book_part.proofs.Shown.{IsAt, is_book, stands, found_tid}
@@ -40,7 +40,7 @@ abbrev pub verdict_at : Option Act → Option Act → Option Verdict
 verdict_at None y = None
 verdict_at (Some x) y = verdict_by y x.m x.status
 
-sealed_told : (m : ℕ) (r : Option TxResult) (st : Status) → is_doomed st ≡ false → sealed_verdict m (is_sealed st) (commit_number_of st) r ≡ act_verdict st m r
+sealed_told : (m : ℕ) (r : Option TxResult) (st : Status) → is_doomed st ≡ false → sealed_verdict m (is_sealed st) (commit_number_if_decided st) r ≡ act_verdict st m r
 sealed_told m r Live d = refl
 sealed_told m r (Doomed why) d = absurd (true≢false d)
 sealed_told m r (Decided c) d = refl

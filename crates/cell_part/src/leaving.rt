@@ -4,7 +4,7 @@ ghost use Rattle.protocol.specs.CellParts.{cleared, parted};
 ghost use Rattle.protocol.specs.OnCell.{is_undone_act, own_entries};
 ghost use Rattle.protocol.specs.Parts.{Act};
 ghost use Rattle.protocol.specs.Words.{is_sealed};
-ghost use Rattle.actor_cell.specs.Calls.{store_left_by, restored, without_image, with_floor_raised};
+ghost use Rattle.actor_cell.specs.Calls.{store_left_by, restored, with_floor_raised};
 ghost use Rattle.cell_part.specs.Room.{KeepsBoxes};
 
 use crate::boxes::Boxes;

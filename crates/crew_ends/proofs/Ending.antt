@@ -2,15 +2,16 @@
 use Rattle.std.proofs.Common.{◌≡◌, ℕ, ◌+◌, ◌<◌, IsSome, Option, Some, None, List, length, slice_get, refl, sym, ap, subst, ◌∙◌, arith}
 use Rattle.std.proofs.lemmas.List.{length-map}
 use Rattle.std.proofs.lemmas.Option.{slice_get-get_or}
+use Rattle.run_effects.specs.Driven.{AreDriven}
 use Rattle.snap_base.proofs.Lists.{one_at, get_mapped}
 use Rattle.aml_slice.specs.Controls.{Rest}
 use Rattle.snap_hand.specs.core_rows.OnRuns.{HasRun}
-use Rattle.crew_ends.specs.Ends.{AreBeside, AreDriven, AreDue, IsSomeEnd, log_at}
+use Rattle.crew_ends.specs.Ends.{AreBeside, AreDue, IsSomeEnd, log_at}
 use Rattle.crew_ends.specs.Lists.{HaveJournals, HaveOutput, besides_of, parts_of}
 use Rattle.crew_ends.proofs.OneOver.{mapped_from}
 use Rattle.crew_parts.specs.Crews.{Begins, HasCome, IsStillDue, JournalIs, OutputIs}
 use Rattle.crew_parts.specs.Shares.{BesideState, OutputState, ShareState}
-use Rattle.gate_log.specs.State.{LogState}
+use Rattle.gate_log.specs.State.{LogState, is_log_shut}
 use Rattle.protocol.specs.Events.{Event, desk, log}
 use Rattle.protocol.specs.Fixed.{Fixed}
 use Rattle.protocol.specs.Parts.{Machine}
@@ -87,7 +88,7 @@ module _ (w : Fixed Rest) (start now : List ShareState) (es : List Event) (old n
       subst (λ o. OutputIs w es o (Some after)) (first.desk x.0 x.1)
       (subst (OutputIs w es x.0.beside.output) (last.desk y.0 y.1) (come.output x.0 y.0 x.1 y.1))
 
-  pub journals_driven : length old ≡ w.text.logs → length new ≡ w.text.logs → AreDriven w es old new
+  pub journals_driven : length old ≡ w.text.logs → length new ≡ w.text.logs → AreDriven w es (is_log_shut new) old new
   journals_driven olds news = (
     news ∙ sym olds,
     λ l within.

@@ -1,5 +1,5 @@
--- What stands beside the shares that a crew begins with and ends with, and what it made of the journals and the output.
-use Rattle.std.specs.Prelude.{◌≡◌, ℕ, ◌<◌, true, if◌then◌else◌, Option, None, Some, List, length, slice_get}
+-- What stands beside the shares that a crew begins with and ends with, and which Syncs are still to come.
+use Rattle.std.specs.Prelude.{◌≡◌, ℕ, ◌<◌, true, Some, List, length, slice_get}
 use Rattle.aml_slice.specs.Controls.{Rest}
 use Rattle.crew_parts.specs.Crews.{Begins, HasCome}
 use Rattle.crew_parts.specs.Shares.{OutputState, ShareState}
@@ -9,9 +9,6 @@ use Rattle.protocol.specs.Conditions.{IsAllowed}
 use Rattle.protocol.specs.Events.{Event, Sync, desk, log}
 use Rattle.protocol.specs.Fixed.{Fixed}
 use Rattle.protocol.specs.Runs.{reached}
-use Rattle.run_effects.specs.Driven.{IsDriven}
-use Rattle.run_effects.specs.Groups.{group_behind, groups_of}
-use Rattle.snap_hand.specs.txn_records.declared.records.Record.{Record}
 
 -- ---- beside the shares
 
@@ -28,15 +25,6 @@ pub record IsSomeEnd (w : Fixed Rest) (now : List ShareState) : Type 0 where
   pub come : HasCome w start events now
 
 -- ---- what became of the journals
-
--- the group whose append met a fault, where the journal is shut
-abbrev pub tried_on : Fixed Rest → ℕ → List Event → LogState → Option (List Record)
-tried_on w l es j = if j.shut then Some (group_behind w l es) else None
-
--- Each log got a group for each of its Syncs, and where it is shut a front of what still waits.
-abbrev pub AreDriven : Fixed Rest → List Event → List LogState → List LogState → Type 0
-AreDriven w es old new =
-    (length new ≡ length old) × ((l : ℕ) → l < length old → IsDriven (log_at old l) (log_at new l) (groups_of w l es) (tried_on w l es (log_at new l)))
 
 -- Where a log's journal is shut, the next Sync of the log is still to come.
 abbrev pub AreDue : Fixed Rest → List Event → List LogState → Type 0

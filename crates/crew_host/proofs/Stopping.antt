@@ -2,7 +2,7 @@
 use Rattle.std.proofs.Common.{◌≡◌, ℕ, zero, suc, ◌+◌, ◌<◌, ◌≤◌, inl, inr, Option, None, Some, List, [], ◌∷◌, length, slice_get, slice_index_or, refl, sym, ap, subst, ◌∙◌, arith, Contains}
 use Rattle.aml_slice.specs.Controls.{Rest}
 use Rattle.crew_ends.specs.Ends.{AreBeside, log_at}
-use Rattle.crew_host.specs.Drives.{AreAllOpen, IsCrewStop}
+use Rattle.crew_host.specs.Drives.{IsCrewStop}
 use Rattle.crew_host.specs.Stops.{IsStopBy}
 use Rattle.crew_parts.specs.Besides.{is_shut_there, has_failed_there}
 use Rattle.crew_parts.specs.Devices.{is_shut, is_shut_at}
@@ -10,7 +10,7 @@ use Rattle.crew_parts.specs.Shares.{OutputState, ShareState}
 use Rattle.crew_workers.specs.Ends.{IsFault, AllOpen, has_failed_beside, output_has_failed}
 use Rattle.crew_workers.specs.declared.ends.Fault.{Fault}
 use Rattle.crew_workers.specs.declared.ends.Fault.TheVariants as fault
-use Rattle.gate_log.specs.State.{LogState}
+use Rattle.gate_log.specs.State.{LogState, AreAllOpen}
 use Rattle.protocol.specs.Events.{Event, desk, log}
 use Rattle.protocol.specs.Fixed.{Fixed}
 use Rattle.protocol.specs.Parts.{Machine}

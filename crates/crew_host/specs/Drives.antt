@@ -2,16 +2,12 @@
 use Rattle.std.specs.Prelude.{◌≡◌, ℕ, ◌<◌, Bool, true, false, List, length}
 use Rattle.aml_slice.specs.Controls.{Rest}
 use Rattle.crew_ends.specs.Ends.{log_at}
-use Rattle.gate_log.specs.State.{LogState}
+use Rattle.gate_log.specs.State.{LogState, AreAllOpen}
 use Rattle.protocol.specs.Events.{Event}
 use Rattle.protocol.specs.Fixed.{Fixed}
 use Rattle.protocol.specs.Runs.{IsQuiet, reached}
 use Rattle.run_effects.specs.declared.stops.Stop.{Stop}
 use Rattle.run_effects.specs.declared.stops.Stop.TheVariants as stop
-
--- none of the logs is shut
-abbrev pub AreAllOpen : List LogState → Type 0
-AreAllOpen logs = (l : ℕ) → l < length logs → (log_at logs l).shut ≡ false
 
 -- The least log that is shut; or, where none is, that the output failed; or, where neither is so, that no event is allowed, or
 -- that there was no memory.

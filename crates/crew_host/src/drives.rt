@@ -2,12 +2,14 @@
 ghost use Rattle.std.specs.Prelude.{◌≡◌, ◌+◌, ◌<◌, ◌≤◌, ◌^◌, List, [], None, Some, false, length, map};
 ghost use Rattle.std.specs.List.{AllByRecursion};
 ghost use Rattle.core_events.specs.Meant.{event_meant};
-ghost use Rattle.crew_ends.specs.Ends.{AreBeside, AreDriven, AreDue};
+ghost use Rattle.crew_ends.specs.Ends.{AreBeside, AreDue};
 ghost use Rattle.crew_ends.specs.Rooms.{IsRoomFor};
 ghost use Rattle.crew_host.specs.Drives.{IsCrewStop};
 ghost use Rattle.crew_host.specs.Stops.{IsStopBy};
 ghost use Rattle.crew_parts.specs.Crews.{Begins, HasCome, OutputIs, kept};
 ghost use Rattle.crew_parts.specs.Shares.{ShareState, output_seen};
+ghost use Rattle.gate_log.specs.State.{is_log_shut};
+ghost use Rattle.run_effects.specs.Driven.{AreDriven};
 ghost use Rattle.snap_hand.specs.snap_work.declared.limits.TheConstants.{MOST_WORKERS};
 ghost use Rattle.protocol.specs.Events as machine;
 ghost use Rattle.run_effects.specs.declared.stops.Stop.TheVariants as stop;
@@ -74,7 +76,7 @@ pub fn drive_crew<
     ensures tables { result.core.tables ≡ core.tables }
     ensures stop { IsCrewStop (fixed_of core.tables) (map event_meant result.kept.items) result.logs.items result.failed result.stop }
     // The logs got the groups of its Syncs, and each that is shut a front of one more.
-    ensures logs { AreDriven (fixed_of core.tables) (map event_meant result.kept.items) logs.items result.logs.items }
+    ensures logs { AreDriven (fixed_of core.tables) (map event_meant result.kept.items) (is_log_shut result.logs.items) logs.items result.logs.items }
     ensures due { AreDue (fixed_of core.tables) (map event_meant result.kept.items) result.logs.items }
     // The output got the lines of its replies, and where it failed a front of one more.
     ensures printed { OutputIs (fixed_of core.tables) (map event_meant result.kept.items)

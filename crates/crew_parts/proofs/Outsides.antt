@@ -7,7 +7,7 @@ use Rattle.std.proofs.lemmas.Bool.Decides.{eqb_tells}
 use Rattle.snap_base.proofs.Options.{some_value}
 use Rattle.aml_slice.specs.Controls.{Rest}
 use Rattle.crew_parts.specs.Acts.{JournalGoes, OutputGoes, Prints, behind, groups_by, tried_by, tried_at, line_at}
-use Rattle.crew_parts.specs.Crews.{IsReady, IsStillDue, JournalIs, OutputIs, Printed, added}
+use Rattle.crew_parts.specs.Crews.{IsReady, IsStillDue, JournalIs, OutputIs, PrintedOrBrokeOff, added}
 use Rattle.crew_parts.specs.LawsOfRuns.{VerdictsGoOn}
 use Rattle.crew_parts.specs.Shares.{OutputState, GetsNoMore}
 use Rattle.gate_log.specs.State.{LogState}
@@ -143,17 +143,17 @@ no_line w es logs e h = refl
 
 module _ (w : Fixed Rest) (es : List Event) (e : Event) (replies : RepliesGrow w es) (allowed : IsAllowed w e (reached w es)) where
   printed_goes : (done : Bool) (a b c : OutputState) → a.faults ≤ b.faults → b.failed ≡ false → GetsNoMore a b → Appends a.taken b.taken (replies_text w es) → Prints done e (reached w es) b c
-      → (a.faults ≤ c.faults) × Printed c.failed w (es ++ added done e) a c × GetsNoMore a c
+      → (a.faults ≤ c.faults) × PrintedOrBrokeOff c.failed w (es ++ added done e) a c × GetsNoMore a c
   printed_goes true a b c later ready once took goes = (
     omega (arith, later, goes.later),
-    subst (λ z. Printed z w (es ++ e ∷ []) a c) (sym goes.ready)
+    subst (λ z. PrintedOrBrokeOff z w (es ++ e ∷ []) a c) (sym goes.ready)
         (subst (Appends a.taken c.taken) (sym (replies e allowed ∙ ap (λ l. replies_text w es ++ l) (sym (line_is w es e))))
         (Appends-trans a.taken b.taken c.taken (replies_text w es) (line_at (reached w es) e) took goes.taken)),
     calls_join a.faults a.late b.faults b.late c.faults c.late ready once goes.once,
   )
   printed_goes false a b c later ready once took goes = (
     omega (arith, later, goes.later),
-    subst (λ z. Printed z w (es ++ []) a c) (sym goes.failed) (record {
+    subst (λ z. PrintedOrBrokeOff z w (es ++ []) a c) (sym goes.failed) (record {
       tx = goes.tx;
       allowed = subst (λ ds. IsAllowed w (Reply goes.tx) (reached w ds)) (sym (append-nil es)) (subst (λ d. IsAllowed w d (reached w es)) goes.is allowed);
       front = goes.front;
@@ -170,7 +170,7 @@ module _ (w : Fixed Rest) (es : List Event) (e : Event) (replies : RepliesGrow w
   output_goes done None o1 o2 is goes = absurd is
   output_goes done (Some a) None o2 is goes = absurd is
   output_goes done (Some a) (Some b) None is goes = absurd goes
-  output_goes done (Some a) (Some b) (Some c) is goes = printed_goes done a b c is.0 goes.0 is.2 (subst (λ z. Printed z w es a b) goes.0 is.1) goes.1
+  output_goes done (Some a) (Some b) (Some c) is goes = printed_goes done a b c is.0 goes.0 is.2 (subst (λ z. PrintedOrBrokeOff z w es a b) goes.0 is.1) goes.1
 
   -- the event prints nothing
   text_stays : (done : Bool) → line_by w es e ≡ [] → replies_text w (es ++ added done e) ≡ replies_text w es
@@ -178,7 +178,7 @@ module _ (w : Fixed Rest) (es : List Event) (e : Event) (replies : RepliesGrow w
   text_stays false none = ap (replies_text w) (append-nil es)
 
   module _ (done : Bool) (same : (reached w es).desk ≡ (reached w (es ++ added done e)).desk) (go : VerdictsGoOn w es (es ++ added done e)) (none : line_by w es e ≡ []) where
-    printed_stays : (failed : Bool) (a b : OutputState) → Printed failed w es a b → Printed failed w (es ++ added done e) a b
+    printed_stays : (failed : Bool) (a b : OutputState) → PrintedOrBrokeOff failed w es a b → PrintedOrBrokeOff failed w (es ++ added done e) a b
     printed_stays true a b is =
         let still = reply_stays w es (es ++ added done e) is.tx same go is.allowed in
         record {

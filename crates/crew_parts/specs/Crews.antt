@@ -77,14 +77,15 @@ pub record BrokeOff (w : Fixed Rest) (es : List Event) (old new : OutputState) :
   pub taken : Appends old.taken new.taken (replies_text w es ++ front)
   pub rose : Rose old.faults new.faults
 
-abbrev pub Printed : Bool → Fixed Rest → List Event → OutputState → OutputState → Type 0
-Printed true w es old new = BrokeOff w es old new
-Printed false w es old new = Appends old.taken new.taken (replies_text w es)
+-- it took the replies, and a front of one more line where it failed
+abbrev pub PrintedOrBrokeOff : Bool → Fixed Rest → List Event → OutputState → OutputState → Type 0
+PrintedOrBrokeOff true w es old new = BrokeOff w es old new
+PrintedOrBrokeOff false w es old new = Appends old.taken new.taken (replies_text w es)
 
 abbrev pub OutputIs : Fixed Rest → List Event → Option OutputState → Option OutputState → Type 0
 OutputIs w es None new = ⊥
 OutputIs w es (Some old) None = ⊥
-OutputIs w es (Some old) (Some new) = (old.faults ≤ new.faults) × Printed new.failed w es old new × GetsNoMore old new
+OutputIs w es (Some old) (Some new) = (old.faults ≤ new.faults) × PrintedOrBrokeOff new.failed w es old new × GetsNoMore old new
 
 -- The events are a run of the machine, of whose state these are all parts; and the journals and the output got what the events give.
 pub record HasCome (w : Fixed Rest) (start : List ShareState) (es : List Event) (now : List ShareState) : Type 0 where

@@ -1,5 +1,5 @@
 -- What contracts see of a log.
-use Rattle.std.specs.Prelude.{◌≡◌, ℕ, Bool, true, List, [], Option, None, slice_index_or}
+use Rattle.std.specs.Prelude.{◌≡◌, ℕ, ◌<◌, Bool, true, false, List, [], Option, None, slice_index_or, length}
 use Rattle.gate_log.specs.declared.logs.LogItem.{LogItem}
 use Rattle.snap_outside.specs.Disk.{History}
 
@@ -21,6 +21,14 @@ pub record LogState : Type 0 where
 -- the log with this number, from 0 on; past the last one a log that is shut, on a device that tells nothing
 abbrev pub log_at : List LogState → ℕ → LogState
 log_at logs n = slice_index_or logs n (record { told = None; end = 0; format = 2; shut = true; found = []; faults = 0 })
+
+-- whether the log with this number is shut
+abbrev pub is_log_shut : List LogState → ℕ → Bool
+is_log_shut logs n = (log_at logs n).shut
+
+-- none of the logs is shut
+abbrev pub AreAllOpen : List LogState → Type 0
+AreAllOpen logs = (l : ℕ) → l < length logs → (log_at logs l).shut ≡ false
 
 -- the device, the gate and the shutter are as before
 pub record IsUntouched (before after : LogState) : Type 0 where

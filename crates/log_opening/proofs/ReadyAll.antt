@@ -10,7 +10,7 @@ use Rattle.snap_recover.specs.declared.causes.LogCause.TheVariants as cause
 use Rattle.log_opening.specs.declared.refusals.LogsNo.{LogsNo}
 use Rattle.log_opening.specs.declared.refusals.LogsNo.TheVariants as ending
 use Rattle.log_opening.specs.Counted.{AreNotRead, FailsUpgrade, HasOldFormat}
-use Rattle.log_opening.specs.Devices.{Device, as_device, device_at, AreBegun, HoldNoOld, HoldsOld, IsBegun, IsOpened, IsPrepared, IsUpgradeCutOff}
+use Rattle.log_opening.specs.Devices.{Device, as_device, device_at, AreBegun, HoldNoOld, HoldsOld, IsBegun, IsOpened, IsDevicePrepared, IsUpgradeCutOff}
 use Rattle.log_opening.specs.Found.{AreBegunOn, AreFound, IsHandled, IsReadyLog}
 use Rattle.log_opening.specs.Upgrades.{AreNotReady, AreAllReady, IsLeftOld, IsMadeReady, IsNotMadeReady, IsStopped, items_at}
 use Rattle.log_opening.proofs.Opening.{found_zip, untouched}
@@ -117,7 +117,7 @@ module _ (laws : ReadyLaws) where
 
   -- the devices of the first logs that are made ready, so many
   all_prepared : (n : ℕ) (before others : List Device) (old new : List LogState) (found : List (List LogItem)) → n ≤ length found → AreFound before (with_logs old others) found → AllZip IsReadyLog old found
-      → length new ≡ length old → ((l : ℕ) → l < n → IsMadeReady (log_at old l) (log_at new l) (items_at found l)) → AllZip IsPrepared (take n before) (take n (with_logs new others))
+      → length new ≡ length old → ((l : ℕ) → l < n → IsMadeReady (log_at old l) (log_at new l) (items_at found l)) → AllZip IsDevicePrepared (take n before) (take n (with_logs new others))
   all_prepared zero before others old new found le are ready many made = tt
   all_prepared (suc n) before others old new [] le are ready many made = absurd (omega (arith, le))
   all_prepared (suc n) before others [] new (f ∷ fs) le are ready many made = absurd ready

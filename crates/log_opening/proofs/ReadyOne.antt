@@ -17,7 +17,7 @@ use Rattle.gate_log.specs.State.{LogState}
 use Rattle.record_log.specs.Growth.{upgrading_of}
 use Rattle.record_log.specs.RecordLogLaws.{UpgradeKeepsRecords}
 use Rattle.record_log.specs.Records.{KeepsRecords}
-use Rattle.log_opening.specs.Devices.{Device, as_device, preparing_of, Begun, HoldsNoOld, HoldsOld, IsPrepared, IsUpgradeCutOff}
+use Rattle.log_opening.specs.Devices.{Device, as_device, preparing_of, Begun, HoldsNoOld, HoldsOld, IsDevicePrepared, IsUpgradeCutOff}
 use Rattle.log_opening.specs.Found.{IsBegunOn, IsFoundOn, IsHandled, IsKeptSafe, IsReadyLog}
 use Rattle.log_opening.specs.Upgrades.{IsBeginningCutOff, IsMadeReady, IsNotMadeReady, IsUpgraded}
 
@@ -172,9 +172,9 @@ module _ (laws : ReadyLaws) (b : Device) (l k : LogState) (items : List LogItem)
       by [] (inr some) none = absurd (some refl)
       by (x ∷ xs) format_or none = adds_nothing l.told l.told refl
 
-  pub prepared : IsMadeReady l k items → IsPrepared b (as_device k)
+  pub prepared : IsMadeReady l k items → IsDevicePrepared b (as_device k)
   prepared (inl same) =
-      subst (λ (x : LogState). IsPrepared b (as_device x)) (sym same.0) (on.opened.0, items, (l.told, on.opened.1, untouched_prepared same.1))
+      subst (λ (x : LogState). IsDevicePrepared b (as_device x)) (sym same.0) (on.opened.0, items, (l.told, on.opened.1, untouched_prepared same.1))
   prepared (inr up) =
       let here : Opened b.told l.told on.opened.0 [] = subst (λ (xs : List LogItem). Opened b.told l.told on.opened.0 xs) up.0 on.opened.1 in
       (on.opened.0, [], (l.told, here, first_upgrades b.told l.told k.told on.opened.0 [] l.format here was up.1 up.2.adds))

@@ -42,7 +42,7 @@ pub record HasOldFormat (count : ℕ) (before after : List devices.Device) (log 
   pub asked : log < count
   pub old : devices.HoldsOld (devices.device_at before log)
   pub least : devices.HoldNoOld log before
-  pub prepared : AllZip devices.IsPrepared (take count before) (take count after)
+  pub prepared : AllZip devices.IsDevicePrepared (take count before) (take count after)
   pub others : drop count after ≡ drop count before
 
 -- All are opened. The upgrade of this log, which is of format 1 and has no item, met a fault. Those below it of the same kind are
@@ -50,7 +50,7 @@ pub record HasOldFormat (count : ℕ) (before after : List devices.Device) (log 
 pub record FailsUpgrade (count : ℕ) (before after : List devices.Device) (log : ℕ) : Type 0 where
   pub asked : log < count
   pub cut_off : devices.IsUpgradeCutOff (devices.device_at before log) (devices.device_at after log)
-  pub below : AllZip devices.IsPrepared (take log before) (take log after)
+  pub below : AllZip devices.IsDevicePrepared (take log before) (take log after)
   pub above : AllZip devices.IsOpened (drop (log + 1) (take count before)) (drop (log + 1) (take count after))
   pub others : drop count after ≡ drop count before
 

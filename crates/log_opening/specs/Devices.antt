@@ -101,8 +101,8 @@ preparing_of old (item ∷ found) = []
 abbrev pub Prepared : Option History → Option History → ℕ → List LogItem → Type 0
 Prepared old new end found = (opened : Option History) × Opened old opened end found × AddsAll opened new (preparing_of old found)
 
-abbrev pub IsPrepared : Device → Device → Type 0
-IsPrepared before after = (end : ℕ) × (found : List LogItem) × Prepared before.told after.told end found
+abbrev pub IsDevicePrepared : Device → Device → Type 0
+IsDevicePrepared before after = (end : ℕ) × (found : List LogItem) × Prepared before.told after.told end found
 
 -- A device was opened, its log was of format 1 and had no item, and the upgrade met a fault.
 abbrev pub IsUpgradeCutOff : Device → Device → Type 0
@@ -112,4 +112,4 @@ IsUpgradeCutOff before after =
 
 -- A device got no call, or those of opening and then of an upgrade, as far as it did not fail.
 abbrev pub IsPreparedAtMost : Device → Device → Type 0
-IsPreparedAtMost before after = IsOpenedAtMost before after ⊎ (IsPrepared before after ⊎ IsUpgradeCutOff before after)
+IsPreparedAtMost before after = IsOpenedAtMost before after ⊎ (IsDevicePrepared before after ⊎ IsUpgradeCutOff before after)

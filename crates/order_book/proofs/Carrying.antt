@@ -12,7 +12,7 @@ use Rattle.protocol.specs.Spread.{stands_behind, carried}
 use Rattle.order_book.specs.Asked.{before_of}
 use Rattle.order_book.proofs.Finding.{eqb_turned, found_at}
 use Rattle.order_book.specs.Changes.{carried_to, carried_at}
-use Rattle.order_book.specs.Registered.{act_tids, before_undoomed, brought_by}
+use Rattle.order_book.specs.Registered.{tids_of_acts, before_undoomed, brought_by}
 
 -- what the ACTs that pass bring
 abbrev pub greatest_of : (Act → Bool) → List Act → ℕ
@@ -61,14 +61,14 @@ never : (b : Bool) (m : ℕ) → (if not b && false then m else 0) ≡ 0
 never true m = refl
 never false m = refl
 
-none_above : (t n : ℕ) (us : List Act) → t ≤ n → AllByRecursion (λ k. n < k) (act_tids us) → greatest_of (is_bringer t) us ≡ 0
+none_above : (t n : ℕ) (us : List Act) → t ≤ n → AllByRecursion (λ k. n < k) (tids_of_acts us) → greatest_of (is_bringer t) us ≡ 0
 none_above t n [] le above = refl
 none_above t n (u ∷ us) le above =
     greatest_cons (is_bringer t) u us
     ∙ (ap (λ (b : Bool). max (if not (is_doomed u.status) && b then u.m else 0) (greatest_of (is_bringer t) us)) (ne_eqb t u.tid (λ (same : t ≡ u.tid). omega (arith, le, above.0, same)))
     ∙ (ap (λ (k : ℕ). max k (greatest_of (is_bringer t) us)) (never (is_doomed u.status) u.m) ∙ omega (arith, none_above t n us le above.1)))
 
-bringer_here : (t : ℕ) (u : Act) (us : List Act) → Ascends (act_tids (u ∷ us)) → greatest_of (is_bringer t) us ≡ before_undoomed (act_of t us) → (b : Bool) → (u.tid == t) ≡ b → greatest_of (is_bringer t) (u ∷ us) ≡ before_undoomed (act_of t (u ∷ us))
+bringer_here : (t : ℕ) (u : Act) (us : List Act) → Ascends (tids_of_acts (u ∷ us)) → greatest_of (is_bringer t) us ≡ before_undoomed (act_of t us) → (b : Bool) → (u.tid == t) ≡ b → greatest_of (is_bringer t) (u ∷ us) ≡ before_undoomed (act_of t (u ∷ us))
 bringer_here t u us up rest true e =
     greatest_cons (is_bringer t) u us
     ∙ (ap (λ (b : Bool). max (if not (is_doomed u.status) && b then u.m else 0) (greatest_of (is_bringer t) us)) (eqb_turned u.tid t true e)
@@ -82,7 +82,7 @@ bringer_here t u us up rest false e =
     ∙ (omega arith
     ∙ (rest ∙ ap before_undoomed (sym (cond-false (u.tid == t) (Some u) (act_of t us) e))))))
 
-bringer : (t : ℕ) (us : List Act) → Ascends (act_tids us) → greatest_of (is_bringer t) us ≡ before_undoomed (act_of t us)
+bringer : (t : ℕ) (us : List Act) → Ascends (tids_of_acts us) → greatest_of (is_bringer t) us ≡ before_undoomed (act_of t us)
 bringer t [] up = refl
 bringer t (u ∷ us) up = bringer_here t u us up (bringer t us up.1) (u.tid == t) refl
 
@@ -107,7 +107,7 @@ unnamed : (b : Bool) → (not b && false) ≡ false
 unnamed true = refl
 unnamed false = refl
 
-pub brought : (pairs : List Pair) (t : ℕ) (us : List Act) → Ascends (act_tids us) → greatest_of (is_named pairs t) us ≡ brought_by pairs t us
+pub brought : (pairs : List Pair) (t : ℕ) (us : List Act) → Ascends (tids_of_acts us) → greatest_of (is_named pairs t) us ≡ brought_by pairs t us
 brought [] t us up = greatest_none (is_named [] t) (λ u. unnamed (is_doomed u.status)) us
 brought (p ∷ ps) t us up =
     greatest_same (is_named (p ∷ ps) t) (λ u. ((p.behind == t) && is_bringer p.ahead u) || is_named ps t u)
@@ -119,20 +119,20 @@ brought (p ∷ ps) t us up =
 
 -- ---- to an ACT
 
-by_order : (b : Bool) (pairs : List Pair) (t : ℕ) (us : List Act) → Ascends (act_tids us) → greatest_of (λ u. not b && is_named pairs t u) us ≡ (if b then 0 else brought_by pairs t us)
+by_order : (b : Bool) (pairs : List Pair) (t : ℕ) (us : List Act) → Ascends (tids_of_acts us) → greatest_of (λ u. not b && is_named pairs t u) us ≡ (if b then 0 else brought_by pairs t us)
 by_order true pairs t us up = greatest_none (λ u. false) (λ u. refl) us
 by_order false pairs t us up = brought pairs t us up
 
 -- one that has its place is carried nothing; any other one what its pairs bring
-pub carried_is : (pairs : List Pair) (x : Act) (us : List Act) → Ascends (act_tids us) → carried pairs x us ≡ (if is_ordered x.status then 0 else brought_by pairs x.tid us)
+pub carried_is : (pairs : List Pair) (x : Act) (us : List Act) → Ascends (tids_of_acts us) → carried pairs x us ≡ (if is_ordered x.status then 0 else brought_by pairs x.tid us)
 carried_is pairs x us up = by_order (is_ordered x.status) pairs x.tid us up
 
-carried_if : (b : Bool) (pairs : List Pair) (x : Act) (us : List Act) → b ≡ is_ordered x.status → Ascends (act_tids us) → carried pairs x us ≡ (if b then 0 else brought_by pairs x.tid us)
+carried_if : (b : Bool) (pairs : List Pair) (x : Act) (us : List Act) → b ≡ is_ordered x.status → Ascends (tids_of_acts us) → carried pairs x us ≡ (if b then 0 else brought_by pairs x.tid us)
 carried_if b pairs x us e up = carried_is pairs x us up ∙ ap (λ (c : Bool). if c then 0 else brought_by pairs x.tid us) (sym e)
 
 -- what is carried to the ACT at a place: nothing if it has its place in the order, else what its pairs bring
-pub carried_there : (pairs : List Pair) (at : ℕ) (acts : List Act) (b : Bool) → Ascends (act_tids acts) → at < length acts → b ≡ holds (λ (x : Act). is_ordered x.status) (slice_get acts at)
-    → carried_at pairs at acts ≡ (if b then 0 else brought_by pairs (get_or (act_tids acts) at 0) (drop (suc at) acts))
+pub carried_there : (pairs : List Pair) (at : ℕ) (acts : List Act) (b : Bool) → Ascends (tids_of_acts acts) → at < length acts → b ≡ holds (λ (x : Act). is_ordered x.status) (slice_get acts at)
+    → carried_at pairs at acts ≡ (if b then 0 else brought_by pairs (get_or (tids_of_acts acts) at 0) (drop (suc at) acts))
 carried_there pairs at [] b up lt e = absurd (omega arith)
 carried_there pairs zero (x ∷ xs) b up lt e = carried_if b pairs x xs e up.1
 carried_there pairs (suc at) (x ∷ xs) b up lt e = carried_there pairs at xs b up.1 (omega arith) e
@@ -151,13 +151,13 @@ slice_get_drop zero j acts = let e : j ≡ 0 + j = omega arith in ap (λ (k : �
 slice_get_drop (suc n) j [] = refl
 slice_get_drop (suc n) j (x ∷ xs) = let e : suc (n + j) ≡ suc n + j = omega arith in slice_get_drop n j xs ∙ ap (λ (k : ℕ). slice_get (x ∷ xs) k) e
 
-behind_place : (t n : ℕ) (acts : List Act) → act_of t (drop n acts) ≡ slice_get acts (n + position_or_len (λ k. k == t) (drop n (act_tids acts)))
+behind_place : (t n : ℕ) (acts : List Act) → act_of t (drop n acts) ≡ slice_get acts (n + position_or_len (λ k. k == t) (drop n (tids_of_acts acts)))
 behind_place t n acts =
     found_at t (drop n acts)
     ∙ (ap (λ (ns : List ℕ). slice_get (drop n acts) (position_or_len (λ k. k == t) ns)) (sym (drop-map (λ (x : Act). x.tid) n acts))
-    ∙ slice_get_drop n (position_or_len (λ k. k == t) (drop n (act_tids acts))) acts)
+    ∙ slice_get_drop n (position_or_len (λ k. k == t) (drop n (tids_of_acts acts))) acts)
 
-pub number_behind : (t n place : ℕ) (acts : List Act) (tids : List ℕ) (b : Bool) → tids ≡ act_tids acts → place ≡ n + position_or_len (λ k. k == t) (drop n tids) → b ≡ holds (λ (x : Act). is_doomed x.status) (slice_get acts place)
+pub number_behind : (t n place : ℕ) (acts : List Act) (tids : List ℕ) (b : Bool) → tids ≡ tids_of_acts acts → place ≡ n + position_or_len (λ k. k == t) (drop n tids) → b ≡ holds (λ (x : Act). is_doomed x.status) (slice_get acts place)
     → (if b then 0 else before_of (slice_get acts place)) ≡ before_undoomed (act_of t (drop n acts))
 number_behind t n place acts tids b listed p e =
     ap (λ (c : Bool). if c then 0 else before_of (slice_get acts place)) e

@@ -16,7 +16,7 @@ use Rattle.protocol.specs.OnBook.{change_if, changed_act}
 use Rattle.order_book.specs.Asked.{tid_of_act}
 use Rattle.order_book.specs.Changes.{changed_at}
 use Rattle.order_book.specs.Kept.{forgotten}
-use Rattle.order_book.specs.Registered.{tid_with, IsPlaceOfAct, act_tids, first_kept}
+use Rattle.order_book.specs.Registered.{tid_with, IsPlaceOfAct, tids_of_acts, first_kept}
 
 -- ---- rising numbers
 
@@ -76,41 +76,41 @@ position_between t xs i low high = position_none t xs (λ k lt same. apart t xs 
 
 -- ---- the place of an ACT
 
-position_in_tids : (t : ℕ) (acts : List Act) → position_or_len (λ n. n == t) (act_tids acts) ≡ position_or_len (λ (x : Act). x.tid == t) acts
+position_in_tids : (t : ℕ) (acts : List Act) → position_or_len (λ n. n == t) (tids_of_acts acts) ≡ position_or_len (λ (x : Act). x.tid == t) acts
 position_in_tids t [] = refl
 position_in_tids t (x ∷ xs) = ap (λ (n : ℕ). if not (x.tid == t) then 1 + n else 0) (position_in_tids t xs)
 
 -- the ACT that the search finds is the one at its tid's place
-pub found_at : (t : ℕ) (acts : List Act) → act_of t acts ≡ slice_get acts (position_or_len (λ n. n == t) (act_tids acts))
+pub found_at : (t : ℕ) (acts : List Act) → act_of t acts ≡ slice_get acts (position_or_len (λ n. n == t) (tids_of_acts acts))
 found_at t acts = rw (position_in_tids t acts) (find_at (λ (x : Act). x.tid == t) acts)
 
-untouched : (t : ℕ) (f : Act → Act) (n : ℕ) (acts : List Act) → t ≤ n → AllByRecursion (λ k. n < k) (act_tids acts) → changed_act t f acts ≡ acts
+untouched : (t : ℕ) (f : Act → Act) (n : ℕ) (acts : List Act) → t ≤ n → AllByRecursion (λ k. n < k) (tids_of_acts acts) → changed_act t f acts ≡ acts
 untouched t f n [] le all = refl
 untouched t f n (x ∷ xs) le all =
     ap (λ (b : Bool). change_if b f x ∷ changed_act t f xs) (ne_eqb x.tid t (λ (same : x.tid ≡ t). omega (arith, le, all.0, same)))
     ∙ ap (λ (zs : List Act). x ∷ zs) (untouched t f n xs le all.1)
 
-by_test : (t : ℕ) (f : Act → Act) (x : Act) (xs : List Act) → Ascends (act_tids (x ∷ xs)) → changed_act t f xs ≡ changed_at (position_or_len (λ n. n == t) (act_tids xs)) f xs
-    → (b : Bool) → (x.tid == t) ≡ b → changed_act t f (x ∷ xs) ≡ changed_at (position_or_len (λ n. n == t) (act_tids (x ∷ xs))) f (x ∷ xs)
+by_test : (t : ℕ) (f : Act → Act) (x : Act) (xs : List Act) → Ascends (tids_of_acts (x ∷ xs)) → changed_act t f xs ≡ changed_at (position_or_len (λ n. n == t) (tids_of_acts xs)) f xs
+    → (b : Bool) → (x.tid == t) ≡ b → changed_act t f (x ∷ xs) ≡ changed_at (position_or_len (λ n. n == t) (tids_of_acts (x ∷ xs))) f (x ∷ xs)
 by_test t f x xs up rest true e =
     ap (λ (c : Bool). change_if c f x ∷ changed_act t f xs) e
     ∙ (ap (λ (zs : List Act). f x ∷ zs) (untouched t f x.tid xs (omega (arith, eqb-true x.tid t e)) up.0)
-    ∙ ap (λ (at : ℕ). changed_at at f (x ∷ xs)) (sym (reached x.tid t (act_tids xs) e)))
+    ∙ ap (λ (at : ℕ). changed_at at f (x ∷ xs)) (sym (reached x.tid t (tids_of_acts xs) e)))
 by_test t f x xs up rest false e =
     ap (λ (c : Bool). change_if c f x ∷ changed_act t f xs) e
     ∙ (ap (λ (zs : List Act). x ∷ zs) rest
-    ∙ ap (λ (at : ℕ). changed_at at f (x ∷ xs)) (sym (passed x.tid t (act_tids xs) e)))
+    ∙ ap (λ (at : ℕ). changed_at at f (x ∷ xs)) (sym (passed x.tid t (tids_of_acts xs) e)))
 
-changes_there : (t : ℕ) (f : Act → Act) (acts : List Act) → Ascends (act_tids acts) → changed_act t f acts ≡ changed_at (position_or_len (λ n. n == t) (act_tids acts)) f acts
+changes_there : (t : ℕ) (f : Act → Act) (acts : List Act) → Ascends (tids_of_acts acts) → changed_act t f acts ≡ changed_at (position_or_len (λ n. n == t) (tids_of_acts acts)) f acts
 changes_there t f [] up = refl
 changes_there t f (x ∷ xs) up = by_test t f x xs up (changes_there t f xs up.1) (x.tid == t) refl
 
 -- what is said of each ACT, where its tid is above a number
-all_with : (n : ℕ) (P Q : Act → Type 0) (acts : List Act) → ((x : Act) → n < x.tid → P x → Q x) → AllByRecursion (λ k. n < k) (act_tids acts) → AllByRecursion P acts → AllByRecursion Q acts
+all_with : (n : ℕ) (P Q : Act → Type 0) (acts : List Act) → ((x : Act) → n < x.tid → P x → Q x) → AllByRecursion (λ k. n < k) (tids_of_acts acts) → AllByRecursion P acts → AllByRecursion Q acts
 all_with n P Q [] step above all = tt
 all_with n P Q (x ∷ xs) step above all = (step x above.0 all.0, all_with n P Q xs step above.1 all.1)
 
-only_one : (t : ℕ) (acts : List Act) → Ascends (act_tids acts) → AllByRecursion (λ (x : Act). (x.tid == t) ≡ true → act_of t acts ≡ Some x) acts
+only_one : (t : ℕ) (acts : List Act) → Ascends (tids_of_acts acts) → AllByRecursion (λ (x : Act). (x.tid == t) ≡ true → act_of t acts ≡ Some x) acts
 only_one t [] up = tt
 only_one t (x ∷ xs) up = (
   λ e. cond-true (x.tid == t) (Some x) (act_of t xs) e,
@@ -119,14 +119,14 @@ only_one t (x ∷ xs) up = (
       up.0 (only_one t xs up.1),
 )
 
-pub placed_at : (t : ℕ) (acts : List Act) → Ascends (act_tids acts) → IsPlaceOfAct t (position_or_len (λ n. n == t) (act_tids acts)) acts
+pub placed_at : (t : ℕ) (acts : List Act) → Ascends (tids_of_acts acts) → IsPlaceOfAct t (position_or_len (λ n. n == t) (tids_of_acts acts)) acts
 placed_at t acts up = record { found = found_at t acts; changes = λ f. changes_there t f acts up; only = only_one t acts up }
 
 -- ---- tids and transactions stay
 
-pub tids_changed : (at : ℕ) (f : Act → Act) (acts : List Act) → ((x : Act) → (f x).tid ≡ x.tid) → act_tids (changed_at at f acts) ≡ act_tids acts
+pub tids_changed : (at : ℕ) (f : Act → Act) (acts : List Act) → ((x : Act) → (f x).tid ≡ x.tid) → tids_of_acts (changed_at at f acts) ≡ tids_of_acts acts
 tids_changed at f [] keeps = refl
-tids_changed zero f (x ∷ xs) keeps = ap (λ (n : ℕ). n ∷ act_tids xs) (keeps x)
+tids_changed zero f (x ∷ xs) keeps = ap (λ (n : ℕ). n ∷ tids_of_acts xs) (keeps x)
 tids_changed (suc at) f (x ∷ xs) keeps = ap (λ (ns : List ℕ). x.tid ∷ ns) (tids_changed at f xs keeps)
 
 pub found_changed : (n at : ℕ) (f : Act → Act) (acts : List Act) → ((x : Act) → (f x).tid ≡ x.tid) → ((x : Act) → (f x).tx ≡ x.tx) → tid_with n (changed_at at f acts) ≡ tid_with n acts
@@ -134,7 +134,7 @@ found_changed n at f [] tid tx = refl
 found_changed n zero f (x ∷ xs) tid tx = ap (λ (k : ℕ). if k == n then Some (f x).tid else tid_with n xs) (tx x) ∙ ap (λ (k : ℕ). if x.tx == n then Some k else tid_with n xs) (tid x)
 found_changed n (suc at) f (x ∷ xs) tid tx = ap (λ (o : Option ℕ). if x.tx == n then Some x.tid else o) (found_changed n at f xs tid tx)
 
-pub tids_forgotten : (acts : List Act) → act_tids (map forgotten acts) ≡ act_tids acts
+pub tids_forgotten : (acts : List Act) → tids_of_acts (map forgotten acts) ≡ tids_of_acts acts
 tids_forgotten [] = refl
 tids_forgotten (x ∷ xs) = ap (λ (ns : List ℕ). x.tid ∷ ns) (tids_forgotten xs)
 
@@ -151,7 +151,7 @@ pub found_push : (n : ℕ) (acts : List Act) (x : Act) → tid_with n (acts ++ x
 found_push n [] x = refl
 found_push n (y ∷ ys) x = ap (λ (o : Option ℕ). if y.tx == n then Some y.tid else o) (found_push n ys x) ∙ first_more (y.tx == n) (x.tx == n) y.tid x.tid (tid_with n ys)
 
-pub tids_below : (t : ℕ) (acts : List Act) → AllByRecursion (λ (x : Act). x.tid < t) acts → AllByRecursion (λ k. k < t) (act_tids acts)
+pub tids_below : (t : ℕ) (acts : List Act) → AllByRecursion (λ (x : Act). x.tid < t) acts → AllByRecursion (λ k. k < t) (tids_of_acts acts)
 tids_below t [] all = tt
 tids_below t (x ∷ xs) all = (all.0, tids_below t xs all.1)
 
@@ -177,20 +177,20 @@ above_by : (m n t : ℕ) (b : Bool) (x : Act) (xs : List Act) → m < x.tid → 
 above_by m n t true x xs here rest e = let same : x.tid ≡ t = same_Some x.tid t e in omega (arith, here, same)
 above_by m n t false x xs here rest e = rest e
 
-tid_above : (m n t : ℕ) (xs : List Act) → AllByRecursion (λ k. m < k) (act_tids xs) → tid_with n xs ≡ Some t → m < t
+tid_above : (m n t : ℕ) (xs : List Act) → AllByRecursion (λ k. m < k) (tids_of_acts xs) → tid_with n xs ≡ Some t → m < t
 tid_above m n t [] above e = absurd (none-some t e)
 tid_above m n t (x ∷ xs) above e = above_by m n t (x.tx == n) x xs above.0 (tid_above m n t xs above.1) e
 
-found_by : (n t : ℕ) (b : Bool) (x : Act) (xs : List Act) → AllByRecursion (λ k. x.tid < k) (act_tids xs) → (tid_with n xs ≡ Some t → act_of t xs ≡ find (λ (y : Act). y.tx == n) xs)
+found_by : (n t : ℕ) (b : Bool) (x : Act) (xs : List Act) → AllByRecursion (λ k. x.tid < k) (tids_of_acts xs) → (tid_with n xs ≡ Some t → act_of t xs ≡ find (λ (y : Act). y.tx == n) xs)
     → (if b then Some x.tid else tid_with n xs) ≡ Some t → act_of t (x ∷ xs) ≡ (if b then Some x else find (λ (y : Act). y.tx == n) xs)
 found_by n t true x xs above rest e = cond-true (x.tid == t) (Some x) (act_of t xs) (eq-eqb x.tid t (same_Some x.tid t e))
 found_by n t false x xs above rest e =
     cond-false (x.tid == t) (Some x) (act_of t xs) (ne_eqb x.tid t (λ (same : x.tid ≡ t). omega (arith, same, tid_above x.tid n t xs above e))) ∙ rest e
 
-found_first : (n t : ℕ) (acts : List Act) → Ascends (act_tids acts) → tid_with n acts ≡ Some t → act_of t acts ≡ find (λ (x : Act). x.tx == n) acts
+found_first : (n t : ℕ) (acts : List Act) → Ascends (tids_of_acts acts) → tid_with n acts ≡ Some t → act_of t acts ≡ find (λ (x : Act). x.tx == n) acts
 found_first n t [] up e = absurd (none-some t e)
 found_first n t (x ∷ xs) up e = found_by n t (x.tx == n) x xs up.0 (found_first n t xs up.1) e
 
-pub found_with : (n : ℕ) (acts : List Act) (r : Option Tid) → Ascends (act_tids acts) → option_map tid_number r ≡ tid_with n acts → IfSome r (λ t. act_of t.0 acts ≡ find (λ (x : Act). x.tx == n) acts)
+pub found_with : (n : ℕ) (acts : List Act) (r : Option Tid) → Ascends (tids_of_acts acts) → option_map tid_number r ≡ tid_with n acts → IfSome r (λ t. act_of t.0 acts ≡ find (λ (x : Act). x.tx == n) acts)
 found_with n acts None up e = tt
 found_with n acts (Some t) up e = found_first n t.0 acts up (sym e)

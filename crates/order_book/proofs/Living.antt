@@ -5,7 +5,7 @@ use Rattle.std.proofs.lemmas.List.{take-append-drop, drop_more}
 use Rattle.protocol.specs.Words.{count, is_live_act}
 use Rattle.order_book.specs.Kept.{Kept, seen, is_live_kept, tid_kept}
 use Rattle.protocol.specs.Numbers.{one_if}
-use Rattle.order_book.specs.Registered.{act_tids}
+use Rattle.order_book.specs.Registered.{tids_of_acts}
 
 length_if : {X : Type 0} (b : Bool) (x : X) (xs : List X) → length (cond b (x ∷ xs) xs) ≡ one_if b + length xs
 length_if true x xs = omega arith
@@ -62,7 +62,7 @@ live_seen epoch (x ∷ xs) =
     ap (λ l. cond (is_live_kept x) (seen epoch x ∷ l) l) (live_seen epoch xs)
     ∙ by_test (is_live_kept x) x epoch (filter is_live_kept xs) (filter is_live_kept xs) refl
 
-tids_seen : (epoch : ℕ) (xs : List Kept) → act_tids (map (seen epoch) xs) ≡ map tid_kept xs
+tids_seen : (epoch : ℕ) (xs : List Kept) → tids_of_acts (map (seen epoch) xs) ≡ map tid_kept xs
 tids_seen epoch [] = refl
 tids_seen epoch (x ∷ xs) = ap (λ l. x.act.tid ∷ l) (tids_seen epoch xs)
 
@@ -73,5 +73,5 @@ same_length epoch (x ∷ xs) = ap suc (same_length epoch xs)
 pub live_count_seen : (epoch : ℕ) (xs : List Kept) → count is_live_act (map (seen epoch) xs) ≡ count is_live_kept xs
 live_count_seen epoch xs = ap length (live_seen epoch xs) ∙ same_length epoch (filter is_live_kept xs)
 
-pub live_tids_seen : (epoch : ℕ) (xs : List Kept) → act_tids (filter is_live_act (map (seen epoch) xs)) ≡ map tid_kept (filter is_live_kept xs)
-live_tids_seen epoch xs = ap act_tids (live_seen epoch xs) ∙ tids_seen epoch (filter is_live_kept xs)
+pub live_tids_seen : (epoch : ℕ) (xs : List Kept) → tids_of_acts (filter is_live_act (map (seen epoch) xs)) ≡ map tid_kept (filter is_live_kept xs)
+live_tids_seen epoch xs = ap tids_of_acts (live_seen epoch xs) ∙ tids_seen epoch (filter is_live_kept xs)

@@ -24,9 +24,9 @@ free_or_wait [] = Free
 free_or_wait (t ∷ ts) = Wait
 
 -- who meets an older rival gives way to the oldest
-abbrev pub answer_by : Option ℕ → List Tid → Answer
-answer_by (Some older) rivals = Die (record { 0 = older })
-answer_by None rivals = free_or_wait rivals
+abbrev pub wait_die_answer : Option ℕ → List Tid → Answer
+wait_die_answer (Some older) rivals = Die (record { 0 = older })
+wait_die_answer None rivals = free_or_wait rivals
 
 -- ---- an ACT, where there is one
 

@@ -7,8 +7,8 @@ use Rattle.protocol.specs.Words.{count, is_doomed, is_live_act, act_of}
 use Rattle.protocol.specs.OnBook.{changed_act}
 use Rattle.order_book.specs.Changes.{changed_at}
 
-abbrev pub act_tids : List Act → List ℕ
-act_tids acts = map (λ x. x.tid) acts
+abbrev pub tids_of_acts : List Act → List ℕ
+tids_of_acts acts = map (λ x. x.tid) acts
 
 -- the tid of the first ACT of a transaction
 abbrev pub tid_with : ℕ → List Act → Option ℕ
@@ -17,7 +17,7 @@ tid_with n (x ∷ xs) = if x.tx == n then Some x.tid else tid_with n xs
 
 -- the tids ascend; by transaction there is the tid of its first ACT; and so many are live
 pub record IsRegistered (acts : List Act) (tids : List ℕ) (by_tx : List (Option ℕ)) (live : ℕ) : Type 0 where
-  pub listed : tids ≡ act_tids acts
+  pub listed : tids ≡ tids_of_acts acts
   pub rising : Ascends tids
   pub found : (n : ℕ) → slice_index_or by_tx n None ≡ tid_with n acts
   pub counted : live ≡ count is_live_act acts

@@ -4,7 +4,7 @@ ghost use Rattle.std.specs.Option.{option_map};
 ghost use Rattle.protocol.specs.Meant.{tid_number};
 ghost use Rattle.protocol.specs.Rivals.{Lock};
 ghost use Rattle.protocol.specs.Words.{least_of, least_older};
-ghost use Rattle.order_book.specs.Asked.{AreLocksOf, locks_of, answer_by};
+ghost use Rattle.order_book.specs.Asked.{AreLocksOf, locks_of, wait_die_answer};
 
 use snap_base::Tid;
 
@@ -22,7 +22,7 @@ pub enum Answer {
 /// The answer of wait-die to `me`, where `rivals` has its rivals that hold the actor or wait for it behind the last batch
 /// there.
 pub fn ask(rivals: &[Tid], me: Tid) -> Answer
-    ensures { (locks : List Lock) → AreLocksOf rivals.now locks → result ≡ answer_by (least_older me.0 locks) rivals.now }
+    ensures { (locks : List Lock) → AreLocksOf rivals.now locks → result ≡ wait_die_answer (least_older me.0 locks) rivals.now }
 {
     match oldest_before(rivals, me) {
         Some(older) => Answer::Die(older),

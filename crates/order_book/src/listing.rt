@@ -3,7 +3,7 @@ ghost use Rattle.std.specs.Prelude.{◌≡◌, ◌≤◌, [], map, take, filter,
 ghost use Rattle.protocol.specs.Meant.{tid_number};
 ghost use Rattle.protocol.specs.Words.{count, is_live_act};
 ghost use Rattle.order_book.specs.Kept.{is_live_kept, tid_kept};
-ghost use Rattle.order_book.specs.Registered.{act_tids};
+ghost use Rattle.order_book.specs.Registered.{tids_of_acts};
 
 use crate::act::Act;
 use crate::acts::Acts;
@@ -15,7 +15,7 @@ impl Book {
     /// The live ACTs, in the order of their tids: they have an actor still to leave, or have joined none and are not given
     /// up. It walks the ACTs from the oldest of them on, and no older one.
     pub fn going(&self, alloc: Global) -> Result<Vec<Tid>, Memory>
-        ensures { IfOk result (λ tids. map tid_number tids.items ≡ act_tids (filter is_live_act self.now.acts)) }
+        ensures { IfOk result (λ tids. map tid_number tids.items ≡ tids_of_acts (filter is_live_act self.now.acts)) }
     {
         let live = self.register.live();
         self.register.acts().going(alloc, live)
@@ -26,7 +26,7 @@ impl Acts {
     /// The live ones, where there are so many.
     fn going(&self, alloc: Global, live: usize) -> Result<Vec<Tid>, Memory>
         requires { live ≡ count is_live_act self.now }
-        ensures { IfOk result (λ tids. map tid_number tids.items ≡ act_tids (filter is_live_act self.now)) }
+        ensures { IfOk result (λ tids. map tid_number tids.items ≡ tids_of_acts (filter is_live_act self.now)) }
     {
         let rows = self.rows.as_slice();
         let first = first_live(rows, live);

@@ -11,7 +11,7 @@ ghost use Rattle.order_book.specs.Kept.{forgotten};
 ghost use Rattle.order_book.specs.Changes.{changed_by, changed_at, carried_at};
 ghost use Rattle.order_book.specs.Walking.{is_walked_at};
 ghost use Rattle.protocol.specs.Numbers.{one_if};
-ghost use Rattle.order_book.specs.Registered.{IsPlaceOfAct, first_kept, act_tids, before_undoomed, brought_by};
+ghost use Rattle.order_book.specs.Registered.{IsPlaceOfAct, first_kept, tids_of_acts, before_undoomed, brought_by};
 
 use crate::acts::Acts;
 use crate::change::Change;
@@ -170,7 +170,7 @@ impl Register {
     /// The greatest number that one of the pairs brings to the ACT at this place.
     fn brought_by(&self, at: usize, pairs: &[Pair]) -> Bid
         requires { at < length self.now }
-        ensures { result.0 ≡ brought_by pairs.now (slice_index (act_tids self.now) at) (drop (at + 1) self.now) }
+        ensures { result.0 ≡ brought_by pairs.now (slice_index (tids_of_acts self.now) at) (drop (at + 1) self.now) }
     {
         let mut most = Bid(0);
         for pair in pairs {

@@ -4,7 +4,7 @@ use Rattle.std.specs.Prelude.{ℕ, max, Bool, not, if◌then◌else◌, Option, 
 use Rattle.snap_base.specs.declared.transactions.State.{State}
 use Rattle.protocol.specs.Fixed.{Sliced}
 use Rattle.protocol.specs.Rivals.{Lock}
-use Rattle.protocol.specs.Parts.{FloorPair, Act, Cascade, Who, OfBatch, OfAct, SubBatch, ControlMessage, Entry, Image, Waiting, Outcome, Cell}
+use Rattle.protocol.specs.Parts.{FloorPair, Act, Cascade, Who, OfAct, SubBatch, ControlMessage, Entry, Image, Waiting, Outcome, Cell}
 use Rattle.protocol.specs.Words.{is_batch_entry, is_act_entry, is_who, without_waiting, without_outcome, image_of, batches_on, greatest}
 use Rattle.protocol.specs.OnCell.{batch_entries, act_entries, arrived, where_placed, done_in, complete_in, state_after, outcomes, images_after, state_from, state_before, images_without, inbox_without, outbox_without, staying, is_undone_act, floors_after}
 
@@ -59,9 +59,9 @@ parted t x s = record {
   floors = floors_after s.floors x;
 }
 
--- a settled batch leaves
-abbrev pub without_image : ℕ → Store → Store
-without_image k s = record s { images = filter (λ i. not (is_who (OfBatch k) i.who)) s.images }
+-- one that leaves takes its image away
+abbrev pub without_image : Who → Store → Store
+without_image who s = record s { images = filter (λ i. not (is_who who i.who)) s.images }
 
 -- ---- the hybrid schedule
 

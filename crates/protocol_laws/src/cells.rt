@@ -4,7 +4,7 @@ ghost use Rattle.std.specs.Prelude.{◌≡◌, ℕ, List, Option};
 ghost use Rattle.protocol.specs.CellParts.{Boxes, HybridSchedule, Store, cell_of, cleared, cut_at, parted, ran, taken_from, with_act, with_asking, with_batch, with_complete, with_control, with_done, with_outcome, with_slice, with_undone, without_act, without_batch, without_image};
 ghost use Rattle.protocol.specs.Fixed.{Code};
 ghost use Rattle.protocol.specs.OnCell.{act_left, act_placed, batch_completed, batch_left, batch_placed, control_came, going, is_done_after, outcome_taken, own_entries, pact_closed, reads_on, rolled_back, sliced, slice_run};
-ghost use Rattle.protocol.specs.Parts.{Act, Cascade, Cell, ControlMessage, SubBatch};
+ghost use Rattle.protocol.specs.Parts.{Act, Cascade, Cell, ControlMessage, OfBatch, SubBatch};
 ghost use Rattle.protocol.specs.Rivals.{Lock};
 ghost use Rattle.protocol.specs.Words.{waiting_of, who_on};
 
@@ -21,5 +21,5 @@ pub fn cells_are_of_parts<C>()
     ensures takes { (s : Store) (h : HybridSchedule) (b : Boxes C) (t : ℕ) → outcome_taken t (cell_of s h b) ≡ cell_of s h (taken_from t b) }
     ensures rolls_back { (s : Store) (h : HybridSchedule) (b : Boxes C) (cascades : List Cascade) → let gone = going cascades h.entries in rolled_back cascades (cell_of s h b) ≡ cell_of (with_undone gone s) (cut_at cascades h) (cleared gone b) }
     ensures leaves { (s : Store) (h : HybridSchedule) (b : Boxes C) (t : ℕ) (x : Option Act) → act_left t x (cell_of s h b) ≡ cell_of (parted t x s) (without_act t h) (cleared (own_entries t h.entries) b) }
-    ensures trims { (s : Store) (h : HybridSchedule) (b : Boxes C) (k : ℕ) → batch_left k (cell_of s h b) ≡ cell_of (without_image k s) (without_batch k h) b }
+    ensures trims { (s : Store) (h : HybridSchedule) (b : Boxes C) (k : ℕ) → batch_left k (cell_of s h b) ≡ cell_of (without_image (OfBatch k) s) (without_batch k h) b }
 {}

@@ -59,8 +59,8 @@ pub record RecordsAddedOnce {C : Type 0} (w : Fixed C) (finish : C → List Stat
 abbrev pub batch_actors : Batch → List ℕ
 batch_actors b = map (λ p. p.actor) b.places
 
-abbrev pub batch_tids : Batch → List ℕ
-batch_tids b = map (λ p. p.tid) b.pacts
+abbrev pub batch_pact_tids : Batch → List ℕ
+batch_pact_tids b = map (λ p. p.tid) b.pacts
 
 abbrev pub batch_results : Batch → List (Option TxResult)
 batch_results b = map (λ p. p.result) b.pacts
@@ -83,7 +83,7 @@ pub record ActCommitted (acts : List Act) (t m c : ℕ) (v : ℤ) (actors : List
 
 -- A record is of a batch or an ACT that is known, and tells it as it is.
 abbrev pub TellsOf : List Batch → List Act → LogRecord → Type 0
-TellsOf batches acts (BatchInfo k actors tids) = (option_map batch_actors (batch_of k batches) ≡ Some actors) × (option_map batch_tids (batch_of k batches) ≡ Some tids)
+TellsOf batches acts (BatchInfo k actors tids) = (option_map batch_actors (batch_of k batches) ≡ Some actors) × (option_map batch_pact_tids (batch_of k batches) ≡ Some tids)
 TellsOf batches acts (BatchComplete k a state) = holds (λ b. is_among a (batch_actors b)) (batch_of k batches) ≡ true
 TellsOf batches acts (BatchDone k vs) = (holds (λ b. not (is_formed b.stage)) (batch_of k batches) ≡ true) × (option_map batch_results (batch_of k batches) ≡ Some (map valued vs))
 TellsOf batches acts (ActPrepare t a state) = holds (λ x. is_value x.result && is_among a (act_actors x)) (act_of t acts) ≡ true

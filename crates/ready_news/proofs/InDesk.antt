@@ -7,7 +7,7 @@ use Rattle.std.proofs.lemmas.List.Elements.{Contains-append_left, Contains-appen
 use Rattle.aml_slice.specs.Controls.{Rest}
 use Rattle.snap_base.specs.declared.ids.Bid.{Bid}
 use Rattle.snap_base.proofs.Booleans.{either_way, not_so}
-use Rattle.listing_facts.specs.batch_table.Askings.{is_next, awaits_settling}
+use Rattle.listing_facts.specs.batch_table.Askings.{is_next_open, awaits_settling}
 use Rattle.listing_facts.specs.batch_table.Listed.{actors_in, is_number, is_unnoted, unnoted_at, unnoted_in, unnoted_on}
 use Rattle.ready_listing.specs.Listed.{of_batch, of_declared, on_desk}
 use Rattle.ready_listing.proofs.Lists.{first_of_all, placed, in_flat_map}
@@ -93,7 +93,7 @@ settles_have k (Some n) h = subst (λ i. Contains (Settle n.0 ∷ []) (Settle i)
 -- ---- after each event
 
 module _ (w : Fixed Rest) (s : Machine Rest) (d : Desk) (next settling : Option Bid)
-    (is_the_next : (k : ℕ) → is_next k d.batches ≡ is_number k next) (is_settling : (k : ℕ) → awaits_settling k d.batches ≡ is_number k settling) where
+    (is_the_next : (k : ℕ) → is_next_open k d.batches ≡ is_number k next) (is_settling : (k : ℕ) → awaits_settling k d.batches ≡ is_number k settling) where
   all : (asked : Event → Bool) → DeskLists asked d (on_desk d)
   all asked = desk_lists asked (on_desk d) d (λ f c. c)
 
@@ -129,7 +129,7 @@ module _ (w : Fixed Rest) (s : Machine Rest) (d : Desk) (next settling : Option 
     settle_listed (Abort j) k h g = (tells_all (λ f. true)).settle k refl g
     settle_listed _ k h g = not_so h
 
-    commit_listed : (e : Event) (k : ℕ) → is_touched w e s (Commit k) ≡ true → is_next k d.batches ≡ true → Contains (by_desk w.text.logs next settling d e) (Commit k)
+    commit_listed : (e : Event) (k : ℕ) → is_touched w e s (Commit k) ≡ true → is_next_open k d.batches ≡ true → Contains (by_desk w.text.logs next settling d e) (Commit k)
     commit_listed (Form j) k h g = Contains-append_right (of_batch d j) (next_ends next) (Commit k) (ends_have k next (sym (is_the_next k) ∙ g)).0
     commit_listed (Settle j) k h g = Contains-append_right (of_batch d j) (next_ends next) (Commit k) (ends_have k next (sym (is_the_next k) ∙ g)).0
     commit_listed (End t b) k h g = (ends_have k next (sym (is_the_next k) ∙ g)).0
@@ -139,7 +139,7 @@ module _ (w : Fixed Rest) (s : Machine Rest) (d : Desk) (next settling : Option 
     commit_listed (Abort j) k h g = (tells_all (λ f. true)).commit k refl g
     commit_listed _ k h g = not_so h
 
-    abort_listed : (e : Event) (k : ℕ) → is_touched w e s (Abort k) ≡ true → is_next k d.batches ≡ true → Contains (by_desk w.text.logs next settling d e) (Abort k)
+    abort_listed : (e : Event) (k : ℕ) → is_touched w e s (Abort k) ≡ true → is_next_open k d.batches ≡ true → Contains (by_desk w.text.logs next settling d e) (Abort k)
     abort_listed (Form j) k h g = Contains-append_right (of_batch d j) (next_ends next) (Abort k) (ends_have k next (sym (is_the_next k) ∙ g)).1
     abort_listed (Settle j) k h g = Contains-append_right (of_batch d j) (next_ends next) (Abort k) (ends_have k next (sym (is_the_next k) ∙ g)).1
     abort_listed (End t b) k h g = (ends_have k next (sym (is_the_next k) ∙ g)).1

@@ -3,7 +3,7 @@
 
 ghost use Rattle.std.specs.Prelude.{◌≡◌, ℕ, Option, Some, List, slice_get, Contains};
 ghost use Rattle.aml_slice.specs.Controls.{Rest};
-ghost use Rattle.listing_facts.specs.batch_table.Askings.{awaits_settling, is_next};
+ghost use Rattle.listing_facts.specs.batch_table.Askings.{awaits_settling, is_next_open};
 ghost use Rattle.listing_facts.specs.batch_table.Listed.{is_number};
 ghost use Rattle.book_part.specs.Halves.{Halves, Shows};
 ghost use Rattle.protocol.specs.Conditions.{epoch};
@@ -69,7 +69,7 @@ pub fn cells_are_told()
 /// A list in which the events listed by the desk stand tells all that is new of what batches wait for, by which batch is the next
 /// to commit, and which one commits.
 pub fn desk_is_told()
-    ensures { (w : Fixed Rest) (e : Event) (s : Machine Rest) (next settling : Option Bid) (es : List Event) → ((k : ℕ) → is_next k (after w e s).desk.batches ≡ is_number k next) → ((k : ℕ) → awaits_settling k (after w e s).desk.batches ≡ is_number k settling) → ((f : Event) → Contains (by_desk w.text.logs next settling (after w e s).desk e) f → Contains es f) → DeskTells (is_new w e s) (after w e s).desk es }
+    ensures { (w : Fixed Rest) (e : Event) (s : Machine Rest) (next settling : Option Bid) (es : List Event) → ((k : ℕ) → is_next_open k (after w e s).desk.batches ≡ is_number k next) → ((k : ℕ) → awaits_settling k (after w e s).desk.batches ≡ is_number k settling) → ((f : Event) → Contains (by_desk w.text.logs next settling (after w e s).desk e) f → Contains es f) → DeskTells (is_new w e s) (after w e s).desk es }
 {
     parts_list_all::<Control>();
 }

@@ -17,7 +17,7 @@ use Rattle.protocol.specs.Parts.{Act, Status, Batch, Pact, OfBatch, OfAct, Machi
 use Rattle.protocol.specs.Words.{holds, is_formed, value_of, act_of, batch_of}
 use Rattle.protocol_laws.specs.Told.{has_number}
 use Rattle.protocol_records.specs.Crash.{is_in}
-use Rattle.protocol_records.specs.RecordLaws.{batch_tids, batch_results, valued, ActCommitted, TellsOf}
+use Rattle.protocol_records.specs.RecordLaws.{batch_pact_tids, batch_results, valued, ActCommitted, TellsOf}
 use Rattle.txn_records.specs.declared.records.Record.{Record}
 use Rattle.txn_records.specs.declared.records.Record.TheVariants.{BatchDone}
 use Rattle.txn_records.specs.declared.keys.Key.TheVariants as keys
@@ -133,7 +133,7 @@ valued_grown {C} w earlier o s logs b g h = elim (in_cases w earlier o s logs b 
         let x = g.whole b.0 q in
         let t = all_mid (TellsOf s.desk.batches s.book.acts) (machine.BatchInfo b.0 x.actors x.tids) x.front x.rest (subst (AllByRecursion (TellsOf s.desk.batches s.book.acts)) x.info (g.tells (b.0 % w.text.logs))) in
         let d = done_told w earlier o s logs b.0 g q in
-        let y = some_mapped batch_tids (batch_of b.0 s.desk.batches) x.tids t.1 in
+        let y = some_mapped batch_pact_tids (batch_of b.0 s.desk.batches) x.tids t.1 in
         let r : batch_results y.0 ≡ map valued d.at.values = mapped_is batch_results (batch_of b.0 s.desk.batches) y.0 (map valued d.at.values) y.1 d.results in
         record {
           actors = actors_of x.actors;
@@ -152,7 +152,7 @@ new_kept {C} w earlier o s logs (b ∷ bs) g h = by (is_in w.text.logs logs (OfB
     by true e r =
         let x = g.whole b.bid e in
         let t = all_mid (TellsOf s.desk.batches s.book.acts) (machine.BatchInfo b.bid x.actors x.tids) x.front x.rest (subst (AllByRecursion (TellsOf s.desk.batches s.book.acts)) x.info (g.tells (b.bid % w.text.logs))) in
-        let same : batch_tids b ≡ x.tids = mapped_is batch_tids (batch_of b.bid s.desk.batches) b x.tids h.0 t.1 in
+        let same : batch_pact_tids b ≡ x.tids = mapped_is batch_pact_tids (batch_of b.bid s.desk.batches) b x.tids h.0 t.1 in
         let d = done_told w earlier o s logs b.bid g e in
         let values : map (λ p. value_of p.result) b.pacts ≡ d.at.values = values_back b.pacts d.at.values (mapped_is batch_results (batch_of b.bid s.desk.batches) b (map valued d.at.values) h.0 d.results) in (
           (

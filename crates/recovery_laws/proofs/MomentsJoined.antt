@@ -23,7 +23,7 @@ use Rattle.protocol_records.specs.Crash.{recovered_state, CrashHolds}
 use Rattle.protocol_laws.proofs.Lemmas.{all_take}
 use Rattle.protocol_laws.specs.Ranges.{IsWithin, BatchInRange, ActInRange, NumbersInRange}
 use Rattle.protocol_laws.proofs.machine.TurnsKept.{one_is}
-use Rattle.protocol_records.specs.RecordLaws.{has_key, all_records, batch_actors, batch_tids, act_actors, TellsOf, RecordsTell, RecordsAddedOnce}
+use Rattle.protocol_records.specs.RecordLaws.{has_key, all_records, batch_actors, batch_pact_tids, act_actors, TellsOf, RecordsTell, RecordsAddedOnce}
 use Rattle.txn_records.specs.declared.records.Record.{Record}
 use Rattle.snap_recover.specs.declared.openings.Opening.{Opening}
 use Rattle.snap_recover.specs.declared.ranges.TheConstants.{GREATEST_NUMBER}
@@ -129,7 +129,7 @@ bid_fits low high k b l h e = omega (arith, h.below, l, e)
 record_range : {C : Type 0} (w : Fixed C) (s : Machine C) (r : LogRecord) → NumbersInRange w s → ActsDrawn w s → HaveRoom s → TellsOf s.desk.batches s.book.acts r → IsInRange (length w.text.opening.states) (told r)
 record_range w s (machine.BatchInfo k actors tids) n d f t =
     let b = some_mapped batch_actors (batch_of k s.desk.batches) actors t.0 in
-    let c = some_mapped batch_tids (batch_of k s.desk.batches) tids t.1 in
+    let c = some_mapped batch_pact_tids (batch_of k s.desk.batches) tids t.1 in
     let g = found_all (BatchInRange w s) k b.0 s.desk.batches n.batches b.1 in
     let h = found_all (BatchInRange w s) k c.0 s.desk.batches n.batches c.1 in
     record {

@@ -3,6 +3,7 @@ use Rattle.std.specs.Prelude.{◌≡◌, refl, ℕ, zero, suc, ◌<◌, ◌≤�
 use Rattle.std.proofs.Common.{inl, inr, arith, sym, ap, subst, ◌∙◌}
 use Rattle.std.proofs.lemmas.List.{append-nil}
 use Rattle.std.proofs.lemmas.List.Concat.{flat_map-cons}
+use Rattle.run_effects.specs.Driven.{tried_on}
 use Rattle.snap_base.specs.declared.transactions.State.{State}
 use Rattle.record_log.specs.gate_log.Opened.{Opened, beginning_ops}
 use Rattle.run_opening.specs.log_opening.Devices.{device_at}
@@ -21,7 +22,7 @@ use Rattle.snap_work.specs.Kept.{KeepsLimits}
 use Rattle.record_log.specs.txn_records.declared.records.Record.{Record}
 use Rattle.run_recovery.specs.Beginnings.{BeginsAgain, CrashBefore, HoldEach, IsFront, KeepsOrBegins}
 use Rattle.run_recovery.specs.OneRun.{TheRun, machine_in}
-use Rattle.run_recovery.specs.Runs.{IsRunDevice, tried_on}
+use Rattle.run_recovery.specs.Runs.{IsRunDevice}
 use Rattle.run_recovery.proofs.SaidLogs.{said_written}
 
 -- ---- the first groups alone

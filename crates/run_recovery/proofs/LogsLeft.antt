@@ -8,6 +8,7 @@ use Rattle.std.proofs.lemmas.Grind.{flat_map-append}
 use Rattle.std.proofs.Math.Seq.{take-length}
 use Rattle.aml_slice.specs.Controls.{Rest}
 use Rattle.record_log.specs.gate_log.Opened.{Opened}
+use Rattle.run_effects.specs.Driven.{tried_on}
 use Rattle.run_opening.specs.log_opening.Devices.{device_at}
 use Rattle.protocol.specs.Effects.{log_at}
 use Rattle.protocol.specs.Events as machine
@@ -31,7 +32,7 @@ use Rattle.record_log.specs.txn_records.declared.records.Record.{Record}
 use Rattle.run_effects.specs.Made.{IsMade}
 use Rattle.run_recovery.specs.Crashes.{CrashOn, begun_on, earlier}
 use Rattle.run_recovery.specs.OneRun.{TheRun, MomentOf, machine_in, reached_at}
-use Rattle.run_recovery.specs.Runs.{IsRunDevice, tried_on}
+use Rattle.run_recovery.specs.Runs.{IsRunDevice}
 use Rattle.run_recovery.proofs.NextGroups.{next_waits}
 
 -- ---- lists of records

@@ -3,6 +3,7 @@ use Rattle.std.specs.Prelude.{◌≡◌, refl, ℕ, ◌%◌, ◌==◌, Bool, tru
 use Rattle.std.proofs.Common.{inl, inr, sym, ap, subst, ◌∙◌}
 use Rattle.std.proofs.lemmas.Bool.{eqb-true, eqb-false, eq-eqb}
 use Rattle.std.proofs.lemmas.List.{append-nil, append_cancel_left, append_assoc}
+use Rattle.run_effects.specs.Driven.{tried_on}
 use Rattle.snap_base.proofs.Booleans.{first_false, second_false}
 use Rattle.protocol.specs.Effects.{after, log_at}
 use Rattle.protocol.specs.Events.{Event, Form, Complete, Sync, Commit, Prepare, Decide, book, cell, desk, footprint, log, post, ring}
@@ -16,7 +17,6 @@ use Rattle.run_effects.specs.Groups.{group_behind, group_by, groups_from, groups
 use Rattle.run_effects.proofs.RunsLonger.{state_longer}
 use Rattle.run_effects.proofs.GroupsGrown.{set_elsewhere}
 use Rattle.record_log.specs.txn_records.declared.records.Record.{Record}
-use Rattle.run_recovery.specs.Runs.{tried_on}
 
 -- ---- runs and lists, one behind the other
 

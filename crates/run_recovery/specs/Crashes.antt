@@ -1,6 +1,7 @@
 -- What a crash leaves at a moment of a run, and what that recovers to.
 use Rattle.std.specs.Prelude.{◌≡◌, ℕ, ◌<◌, Some, List, ◌++◌}
 use Rattle.aml_slice.specs.aml_tree.Tree.{CheckedMethod}
+use Rattle.run_effects.specs.Driven.{tried_on}
 use Rattle.run_opening.specs.log_opening.Devices.{device_at}
 use Rattle.machine_recovery.specs.OnLogs.{RecoversAsMeant}
 use Rattle.protocol.specs.Moments.{IsLeft, left_in}
@@ -13,7 +14,6 @@ use Rattle.run_opening.specs.Opens.{first_groups, records_at, with_first}
 use Rattle.run_effects.specs.Groups.{groups_of, group_behind}
 use Rattle.run_effects.specs.Made.{IsMade}
 use Rattle.run_recovery.specs.OneRun.{TheRun, MomentOf, alone_in, history_at, machine_in, reached_at}
-use Rattle.run_recovery.specs.Runs.{tried_on}
 use Rattle.record_log.specs.snap_outside.declared.devices.DevOp.{DevOp}
 use Rattle.record_log.specs.snap_outside.Disk.{History, content, disk, disk_after, settled, IsImage}
 use Rattle.record_log.specs.txn_records.declared.records.Record.{Record}

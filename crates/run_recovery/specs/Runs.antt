@@ -1,10 +1,11 @@
 -- A run of a work: what it begins with, how far it goes, and what it leaves on its logs.
-use Rattle.std.specs.Prelude.{◌≡◌, ℕ, ◌<◌, ◌≤◌, ◌==◌, if◌then◌else◌, Bool, true, false, Option, None, Some, List, [], ◌∷◌, ◌++◌, length, drop, map}
+use Rattle.std.specs.Prelude.{◌≡◌, ℕ, ◌<◌, ◌≤◌, Bool, true, false, Option, List, [], ◌∷◌, ◌++◌, length, drop, map}
 use Rattle.run_effects.specs.core_events.declared.events.Event.{Event}
 use Rattle.run_effects.specs.core_events.Meant.{event_meant}
 use Rattle.record_log.specs.gate_log.declared.limits.TheConstants.{FARTHEST_END}
 use Rattle.record_log.specs.gate_log.declared.logs.LogItem.{LogItem}
 use Rattle.record_log.specs.gate_log.Opened.{Opened}
+use Rattle.run_effects.specs.Driven.{tried_on}
 use Rattle.run_opening.specs.log_opening.Devices.{Device, device_at, HoldNoOld}
 use Rattle.run_opening.specs.log_opening.Kept.{DeviceHolds}
 pub use Rattle.machine_text.specs.Texts.{text_of, machine_of}
@@ -26,15 +27,7 @@ use Rattle.record_log.specs.txn_records.declared.records.Record.{Record}
 abbrev pub meant : List Event → List machine.Event
 meant es = map event_meant es
 
--- ---- which logs failed
-
--- no log
-abbrev pub none_failed : ℕ → Bool
-none_failed l = false
-
--- this one alone
-abbrev pub only_failed : ℕ → ℕ → Bool
-only_failed log l = log == l
+-- ---- which log failed first
 
 -- This one did, and none of a lower number.
 pub record IsLeastOf (failed : ℕ → Bool) (log : ℕ) : Type 0 where
@@ -52,10 +45,6 @@ pub record IsRunDevice (before after : Device) (records : List Record) (groups :
   pub low : end ≤ FARTHEST_END
   pub grew : GrewBy before.told after.told end groups tried
   pub later : before.faults ≤ after.faults
-
--- the append that met a fault on this log, where it failed
-abbrev pub tried_on : (ℕ → Bool) → ℕ → List Record → Option (List Record)
-tried_on failed l group = if failed l then Some group else None
 
 -- The logs, so many as the text says, lie on the first devices. They held records on which a run of the text begins with the
 -- opening, none of them in format 1. Each got what is written before a run, then a group for each of its Syncs; each that failed got a front of one

@@ -14,7 +14,7 @@ use Rattle.protocol.specs.Fixed.{Fixed}
 use Rattle.protocol.specs.Runs.{reached}
 use Rattle.run_opening.specs.Opens.{IsNoRun, MayOpen}
 use Rattle.run_printing.specs.Printed.{traced_line}
-use Rattle.run_recovery.specs.Runs.{none_failed, only_failed, HasRun, meant, machine_of, HasEnded}
+use Rattle.run_recovery.specs.Runs.{HasRun, meant, machine_of, HasEnded}
 use Rattle.run_recovery.specs.Schedules.{Schedule, seeded, free}
 use Rattle.run_recovery.specs.OneRun.{the_run}
 use Rattle.run_recovery.specs.Stands.{RunStands}
@@ -34,6 +34,7 @@ use Rattle.snap_report.specs.declared.statuses.Status.TheVariants as status
 use Rattle.snap_work.specs.Works.{Work}
 use Rattle.run_printing.specs.trace_text.Traces.{trace_of}
 use Rattle.run_opening.specs.txn_records.declared.records.Record.{Record}
+use Rattle.solo_host.specs.run_effects.Driven.{none_failed, only_failed}
 
 -- ---- with the trace
 

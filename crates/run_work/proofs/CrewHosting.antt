@@ -3,17 +3,17 @@ use Rattle.std.proofs.Common.{◌≡◌, ℕ, ◌<◌, Bool, true, false, if◌t
 use Rattle.std.proofs.lemmas.Bool.{lt-ltb, ltb-true, true≢false}
 use Rattle.snap_core.specs.aml_slice.Controls.{Rest}
 use Rattle.crew_host.specs.crew_ends.Ends as crew
-use Rattle.crew_host.specs.Drives.{IsCrewStop, AreAllOpen}
+use Rattle.crew_host.specs.Drives.{IsCrewStop}
 use Rattle.crew_host.specs.crew_parts.Crews.{OutputIs}
-use Rattle.run_opening.specs.gate_log.State.{LogState}
+use Rattle.run_opening.specs.gate_log.State.{LogState, AreAllOpen, is_log_shut}
 use Rattle.protocol.specs.Events as machine
 use Rattle.protocol.specs.Fixed.{Fixed}
 use Rattle.protocol.specs.Runs.{IsRun}
-use Rattle.solo_host.specs.run_effects.Driven.{IsDriven}
+use Rattle.solo_host.specs.run_effects.Driven.{IsDriven, tried_on, none_failed, AreDriven}
 use Rattle.solo_host.specs.run_effects.declared.stops.Stop.{Stop}
 use Rattle.solo_host.specs.run_effects.declared.stops.Stop.TheVariants as stop
 use Rattle.solo_host.specs.run_effects.Groups.{groups_of, group_behind}
-use Rattle.run_recovery.specs.Runs.{machine_of, none_failed, tried_on, IsLeastOf}
+use Rattle.run_recovery.specs.Runs.{machine_of, IsLeastOf}
 use Rattle.run_recovery.specs.Schedules.{free}
 use Rattle.run_work.specs.Hosts.{HasDriven, IsStopOf, PrintsStopped, PrintsReplies, PrintsUnlessFailed, StopsSo, IsHostEnd}
 use Rattle.run_work.specs.Runs.{reporting, PrintsNext, as_printed}
@@ -42,14 +42,14 @@ is_there logs l shut = there logs l (nat_lt l (length logs)) refl shut
 -- ---- what the logs got
 
 same_tried : (m : Fixed Rest) (es : List machine.Event) (new : List LogState) (l : ℕ) → l < length new
-    → crew.tried_on m l es (crew.log_at new l) ≡ tried_on (failed_logs new) l (group_behind m l es)
+    → tried_on (is_log_shut new) l (group_behind m l es) ≡ tried_on (failed_logs new) l (group_behind m l es)
 same_tried m es new l lt = ap (λ t. if t then Some (group_behind m l es) else None) (sym (within new l lt))
 
 rose_of : (a b : LogState) (groups : List (List Record)) (tried : Option (List Record)) → IsDriven a b groups tried → b.shut ≡ true → Rose a.faults b.faults
 rose_of a b groups None driven shut = absurd (true≢false (sym shut ∙ driven.shut))
 rose_of a b groups (Some group) driven shut = driven.rose
 
-driven : (w : Work) (o : Opening) (es : List machine.Event) (old new : List LogState) → IsRun (machine_of w o) es → crew.AreDriven (machine_of w o) es old new
+driven : (w : Work) (o : Opening) (es : List machine.Event) (old new : List LogState) → IsRun (machine_of w o) es → AreDriven (machine_of w o) es (is_log_shut new) old new
     → HasDriven w free o es old new (failed_logs new)
 driven w o es old new run logs = record {
   front = run;
@@ -60,11 +60,11 @@ driven w o es old new run logs = record {
   rose = λ l is.
       let x = is_there new l is in
       let lt : l < length old = omega (arith, x.0, logs.0) in
-      (lt, rose_of (crew.log_at old l) (crew.log_at new l) (groups_of (machine_of w o) l es) (crew.tried_on (machine_of w o) l es (crew.log_at new l)) (logs.1 l lt) x.1);
+      (lt, rose_of (crew.log_at old l) (crew.log_at new l) (groups_of (machine_of w o) l es) (tried_on (is_log_shut new) l (group_behind (machine_of w o) l es)) (logs.1 l lt) x.1);
 }
 
 -- where no log is shut none failed
-none_driven : (w : Work) (o : Opening) (es : List machine.Event) (old new : List LogState) → IsRun (machine_of w o) es → crew.AreDriven (machine_of w o) es old new → AreAllOpen new
+none_driven : (w : Work) (o : Opening) (es : List machine.Event) (old new : List LogState) → IsRun (machine_of w o) es → AreDriven (machine_of w o) es (is_log_shut new) old new → AreAllOpen new
     → HasDriven w free o es old new none_failed
 none_driven w o es old new run logs ready = record {
   front = run;
@@ -102,7 +102,7 @@ next w o es out heard = let b = heard.2.1 in (b.tx, b.allowed, (b.front, b.rest,
 
 -- why they ended
 stopped : (w : Work) (o : Opening) (es : List machine.Event) (old new : List LogState) (failed : Bool) (out : Writing) (by : Stop) → IsRun (machine_of w o) es
-    → crew.AreDriven (machine_of w o) es old new → crew.AreDue (machine_of w o) es new → IsCrewStop (machine_of w o) es new failed by → Heard (machine_of w o) es failed out
+    → AreDriven (machine_of w o) es (is_log_shut new) old new → crew.AreDue (machine_of w o) es new → IsCrewStop (machine_of w o) es new failed by → Heard (machine_of w o) es failed out
     → IsStopOf (HasDriven w free o es old new) (as_printed reporting w free o es out) by
 stopped w o es old new failed out stop.Quiet run logs due why heard = (none_driven w o es old new run logs why.0, why.2)
 stopped w o es old new failed out (stop.LogFault log) run logs due why heard = (
@@ -147,12 +147,12 @@ module _
     pub crew_whole : PrintsUnlessFailed failed (as_printed reporting w free o es out)
     crew_whole = whole w o es failed out heard_by
 
-    pub crew_hosted : IsRun m es → crew.AreDriven m es old new → crew.AreDue m es new → IsCrewStop m es new failed by
+    pub crew_hosted : IsRun m es → AreDriven m es (is_log_shut new) old new → crew.AreDue m es new → IsCrewStop m es new failed by
         → IsHostEnd (HasDriven w free o es old new) (as_printed reporting w free o es out) by
     crew_hosted run logs due why =
         let why_by : IsCrewStop (machine_of w o) es new failed by = subst (λ (x : Fixed Rest). IsCrewStop x es new failed by) same why in
         record {
-          why = stopped w o es old new failed out by (subst (λ (x : Fixed Rest). IsRun x es) same run) (subst (λ (x : Fixed Rest). crew.AreDriven x es old new) same logs)
+          why = stopped w o es old new failed out by (subst (λ (x : Fixed Rest). IsRun x es) same run) (subst (λ (x : Fixed Rest). AreDriven x es (is_log_shut new) old new) same logs)
               (subst (λ (x : Fixed Rest). crew.AreDue x es new) same due) why_by heard_by;
           printed = printed w o es new failed out by why_by heard_by;
           later = heard_by.2.0;

@@ -13,8 +13,7 @@ use Rattle.protocol.specs.Events as machine
 use Rattle.protocol.specs.Fixed.{Fixed}
 use Rattle.solo_host.specs.protocol_schedule.Draw.{IsFrontOfSeed}
 use Rattle.run_opening.specs.record_log.Growth.{GrewBy}
-use Rattle.solo_host.specs.run_effects.Groups.{groups_of, group_behind}
-use Rattle.run_recovery.specs.Runs.{machine_of, meant, none_failed, only_failed, tried_on}
+use Rattle.run_recovery.specs.Runs.{machine_of, meant}
 use Rattle.run_recovery.specs.Schedules.{Schedule, seeded, free, IsTakenBy}
 use Rattle.run_work.specs.declared.hosts.Hosted.{Hosted}
 use Rattle.run_work.specs.Hosts.{HasDriven, HasLeft, LeftFailed, IsStopOf, PrintsStopped, PrintsReplies, PrintsUnlessFailed, StopsSo, IsHostEnd, IsCoreOf, IsMade, IsHosted, HasHosted}
@@ -24,7 +23,7 @@ use Rattle.snap_core.specs.Cores.{CoreState, IsAt}
 use Rattle.snap_outside.specs.Causes.{Rose}
 use Rattle.run_opening.specs.snap_recover.declared.openings.Opening.{Opening}
 use Rattle.snap_work.specs.Works.{Work}
-use Rattle.solo_host.specs.run_effects.Driven.{IsDriven}
+use Rattle.solo_host.specs.run_effects.Driven.{IsDriven, none_failed, only_failed, AreDriven}
 use Rattle.solo_host.specs.Drives as host
 use Rattle.solo_host.specs.run_effects.declared.stops.Stop.{Stop}
 use Rattle.solo_host.specs.run_effects.declared.stops.Stop.TheVariants as stop
@@ -32,22 +31,8 @@ use Rattle.run_opening.specs.txn_records.declared.records.Record.{Record}
 
 -- ---- how it ended
 
--- the log that one thread stopped at, where it did
-abbrev failed_by : Stop → ℕ → Bool
-failed_by stop.Quiet = none_failed
-failed_by (stop.LogFault log) = only_failed log
-failed_by stop.OutFault = none_failed
-failed_by stop.Memory = none_failed
-
-same_tried : (w : Work) (o : Opening) (es : List machine.Event) (why : Stop) (l : ℕ)
-    → host.tried_on (machine_of w o) l es why ≡ tried_on (failed_by why) l (group_behind (machine_of w o) l es)
-same_tried w o es stop.Quiet l = refl
-same_tried w o es (stop.LogFault k) l = refl
-same_tried w o es stop.OutFault l = refl
-same_tried w o es stop.Memory l = refl
-
 rose_by : (w : Work) (seed : ℕ) (o : Opening) (es : List machine.Event) (old new : List LogState) (a b : ℕ) (why : Stop)
-    → host.IsWhy (machine_of w o) seed es old new a b why → (l : ℕ) → failed_by why l ≡ true → (l < length old) × Rose (host.log_at old l).faults (host.log_at new l).faults
+    → host.IsWhy (machine_of w o) seed es old new a b why → (l : ℕ) → host.failed_by why l ≡ true → (l < length old) × Rose (host.log_at old l).faults (host.log_at new l).faults
 rose_by w seed o es old new a b stop.Quiet why l is = absurd (true≢false (sym is))
 rose_by w seed o es old new a b (stop.LogFault k) why l is =
     subst (λ (n : ℕ). (n < length old) × Rose (host.log_at old n).faults (host.log_at new n).faults) (eqb-true k l is) (why.0, why.2)
@@ -55,15 +40,15 @@ rose_by w seed o es old new a b stop.OutFault why l is = absurd (true≢false (s
 rose_by w seed o es old new a b stop.Memory why l is = absurd (true≢false (sym is))
 
 driven : (w : Work) (seed : ℕ) (o : Opening) (es : List machine.Event) (old new : List LogState) (a b : ℕ) (by : Stop) → IsFrontOfSeed (machine_of w o) seed es
-    → host.IsWhy (machine_of w o) seed es old new a b by → host.AreDriven (machine_of w o) es by old new → HasDriven w (seeded seed) o es old new (failed_by by)
+    → host.IsWhy (machine_of w o) seed es old new a b by → AreDriven (machine_of w o) es (host.failed_by by) old new → HasDriven w (seeded seed) o es old new (host.failed_by by)
 driven w seed o es old new a b by front why logs = record {
   front = front;
   as_many = logs.0;
-  each = λ l lt. subst (λ (t : Option (List Record)). IsDriven (host.log_at old l) (host.log_at new l) (groups_of (machine_of w o) l es) t) (same_tried w o es by l) (logs.1 l lt);
+  each = logs.1;
   rose = rose_by w seed o es old new a b by why;
 }
 
-stopped : (w : Work) (seed : ℕ) (o : Opening) (es : List machine.Event) (old new : List LogState) (out : Writing) (by : Stop) → HasDriven w (seeded seed) o es old new (failed_by by)
+stopped : (w : Work) (seed : ℕ) (o : Opening) (es : List machine.Event) (old new : List LogState) (out : Writing) (by : Stop) → HasDriven w (seeded seed) o es old new (host.failed_by by)
     → host.IsWhy (machine_of w o) seed es old new out.faults_before out.faults_after by → IsStopOf (HasDriven w (seeded seed) o es old new) (as_printed reporting w (seeded seed) o es out) by
 stopped w seed o es old new out stop.Quiet left why = (left, why)
 stopped w seed o es old new out (stop.LogFault k) left why = (left, why.1)
@@ -78,7 +63,7 @@ replies_printed w seed o es out stop.OutFault is = (is.0, is.3, (is.1, is.2, is.
 replies_printed w seed o es out stop.Memory is = is
 
 hosted_by : (w : Work) (seed : ℕ) (o : Opening) (es : List machine.Event) (old new : List LogState) (out : Writing) (by : Stop) → IsFrontOfSeed (machine_of w o) seed es
-    → host.IsWhy (machine_of w o) seed es old new out.faults_before out.faults_after by → host.AreDriven (machine_of w o) es by old new
+    → host.IsWhy (machine_of w o) seed es old new out.faults_before out.faults_after by → AreDriven (machine_of w o) es (host.failed_by by) old new
     → host.IsPrinted (machine_of w o) seed es out.taken_before out.taken_after by → out.faults_before ≤ out.faults_after
     → IsHostEnd (HasDriven w (seeded seed) o es old new) (as_printed reporting w (seeded seed) o es out) by
 hosted_by w seed o es old new out by front why logs printed later = record {
@@ -88,12 +73,12 @@ hosted_by w seed o es old new out by front why logs printed later = record {
 }
 
 pub hosted : (w : Work) (seed : ℕ) (o : Opening) (es : List machine.Event) (old new : List LogState) (out : Writing) (by : Stop) (m : Fixed Rest) → m ≡ machine_of w o
-    → IsFrontOfSeed m seed es → host.IsWhy m seed es old new out.faults_before out.faults_after by → host.AreDriven m es by old new
+    → IsFrontOfSeed m seed es → host.IsWhy m seed es old new out.faults_before out.faults_after by → AreDriven m es (host.failed_by by) old new
     → host.IsPrinted m seed es out.taken_before out.taken_after by → out.faults_before ≤ out.faults_after
     → IsHostEnd (HasDriven w (seeded seed) o es old new) (as_printed reporting w (seeded seed) o es out) by
 hosted w seed o es old new out by m same front why logs printed later =
     hosted_by w seed o es old new out by (subst (λ (x : Fixed Rest). IsFrontOfSeed x seed es) same front)
-    (subst (λ (x : Fixed Rest). host.IsWhy x seed es old new out.faults_before out.faults_after by) same why) (subst (λ (x : Fixed Rest). host.AreDriven x es by old new) same logs)
+    (subst (λ (x : Fixed Rest). host.IsWhy x seed es old new out.faults_before out.faults_after by) same why) (subst (λ (x : Fixed Rest). AreDriven x es (host.failed_by by) old new) same logs)
     (subst (λ (x : Fixed Rest). host.IsPrinted x seed es out.taken_before out.taken_after by) same printed) later
 
 -- unless it stopped for the output, all replies are printed

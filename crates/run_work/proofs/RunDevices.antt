@@ -8,14 +8,14 @@ use Rattle.run_opening.specs.record_log.Growth.{GrewBy}
 use Rattle.run_opening.specs.Opens.{HasRoomToBegin, OpensRun, IsRunLog, first_groups, records_at}
 use Rattle.run_opening.specs.Starts.{IsStart}
 use Rattle.solo_host.specs.run_effects.Groups.{groups_of, group_behind}
-use Rattle.run_recovery.specs.Runs.{IsRunDevice, HasRun, tried_on, machine_of}
+use Rattle.run_recovery.specs.Runs.{IsRunDevice, HasRun, machine_of}
 use Rattle.run_recovery.specs.Schedules.{Schedule}
 use Rattle.run_work.specs.Hosts.{HasDriven, HasLeft}
 use Rattle.snap_base.specs.declared.transactions.State.{State}
 use Rattle.snap_outside.specs.Causes.{Rose}
 use Rattle.run_opening.specs.snap_recover.declared.openings.Opening.{Opening}
 use Rattle.snap_work.specs.Works.{Work}
-use Rattle.solo_host.specs.run_effects.Driven.{IsDriven}
+use Rattle.solo_host.specs.run_effects.Driven.{IsDriven, tried_on}
 use Rattle.run_opening.specs.txn_records.declared.records.Record.{Record}
 
 -- ---- logs and devices by their numbers

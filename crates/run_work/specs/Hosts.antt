@@ -9,9 +9,9 @@ use Rattle.run_opening.specs.log_opening.Devices.{Device, device_at}
 use Rattle.protocol.specs.Events as machine
 use Rattle.protocol.specs.Fixed.{Fixed}
 use Rattle.run_opening.specs.Opens.{AreSafe, IsNoRun, MayOpen}
-use Rattle.solo_host.specs.run_effects.Driven.{IsDriven}
+use Rattle.solo_host.specs.run_effects.Driven.{IsDriven, tried_on, none_failed, only_failed}
 use Rattle.solo_host.specs.run_effects.Groups.{groups_of, group_behind}
-use Rattle.run_recovery.specs.Runs.{HasRun, machine_of, meant, none_failed, only_failed, IsLeastOf, tried_on, GoesOnWith, HasEnded}
+use Rattle.run_recovery.specs.Runs.{HasRun, machine_of, meant, IsLeastOf, GoesOnWith, HasEnded}
 use Rattle.run_recovery.specs.Schedules.{Schedule, seeded, free, IsTakenBy}
 use Rattle.run_work.specs.Runs.{Printing, Printed, reporting, summing, replies_in, PrintsNext, as_printed}
 use Rattle.run_work.specs.Writings.{Writing, IsSilent, Writes}

@@ -10,11 +10,12 @@ use Rattle.protocol.specs.Fixed.{Fixed}
 use Rattle.protocol.specs.Report.{replied}
 use Rattle.protocol.specs.Runs.{reached}
 use Rattle.run_opening.specs.Opens.{AreSafe, IsNoRun}
+use Rattle.solo_host.specs.run_effects.Driven.{none_failed, only_failed}
 use Rattle.solo_host.specs.run_effects.Lines.{line_in, replies_text, ending_text}
 use Rattle.run_printing.specs.Printed.{traced_line, unanswered, unsure_line}
 use Rattle.run_printing.specs.Summed.{summing_text}
 use Rattle.run_recovery.specs.OneRun.{the_run}
-use Rattle.run_recovery.specs.Runs.{machine_of, meant, none_failed, only_failed, IsLeastOf, HasRun, GoesOnWith, HasEnded}
+use Rattle.run_recovery.specs.Runs.{machine_of, meant, IsLeastOf, HasRun, GoesOnWith, HasEnded}
 use Rattle.run_recovery.specs.Schedules.{Schedule, seeded, free}
 use Rattle.run_recovery.specs.Stands.{RunStands}
 use Rattle.run_work.specs.Writings.{Writing, WritesNothing, Writes, WritesBehind, WritesLines}

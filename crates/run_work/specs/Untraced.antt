@@ -7,7 +7,7 @@ use Rattle.run_opening.specs.log_opening.declared.refusals.LogsNo.{LogsNo}
 use Rattle.run_opening.specs.log_opening.declared.refusals.LogsNo.TheVariants as ending
 use Rattle.protocol.specs.Events as machine
 use Rattle.protocol.specs.Fixed.{Fixed}
-use Rattle.run_recovery.specs.Runs.{meant, none_failed, HasEnded}
+use Rattle.run_recovery.specs.Runs.{meant, HasEnded}
 use Rattle.run_printing.specs.Printed.{traced_line}
 use Rattle.run_work.specs.Hosts.{HasLeft, LeftFailed, IsCoreOf, IsWithoutRun}
 use Rattle.run_work.specs.Runs.{Printing, Printed, ending_by, Ran, PrintsAll, PrintsEnding, PrintsWhole, PrintsNext, PrintsFailed, TellsUnsure, printed_of}
@@ -21,6 +21,7 @@ use Rattle.snap_report.specs.declared.statuses.Status.TheVariants as status
 use Rattle.solo_host.specs.run_effects.declared.stops.Stop.{Stop}
 use Rattle.solo_host.specs.run_effects.declared.stops.Stop.TheVariants as stop
 use Rattle.run_printing.specs.trace_text.Traces.{trace_of}
+use Rattle.solo_host.specs.run_effects.Driven.{none_failed}
 
 -- ---- behind a host
 

@@ -12,7 +12,7 @@ use Rattle.txn_records.specs.declared.records.Record.TheVariants.{Genesis, Batch
 use Rattle.snap_recover.specs.declared.kinds.Kind.TheVariants as kinds
 use Rattle.snap_recover.specs.Logs.{all_of, states_in}
 use Rattle.snap_recover.specs.Opening.{IsInRange, Counts, IsStateOf, AreStatesOf}
-use Rattle.snap_recover.specs.Passes.{In, HasCommitted, TellsState, StateOver, Replays}
+use Rattle.snap_recover.specs.Passes.{In, HasCommitted, RecordTellsState, StateOver, Replays}
 use Rattle.snap_recover.proofs.Lists.{all_of_each, all_middle}
 use Rattle.snap_recover.proofs.Homes.{at_log, below_cases}
 use Rattle.snap_recover.proofs.Steps.{taken, split_at, logs_split}
@@ -24,13 +24,13 @@ pub replays_none : (log logs : ℕ) (Bs As : ℕ → Type 0) (states : List Stat
 replays_none log logs Bs As states = record { long = refl; here = λ a d l e. inr (tt, refl); elsewhere = λ a d l e. refl }
 
 pub replays_quiet : (log logs : ℕ) (Bs As : ℕ → Type 0) (rs : List Record) (i : ℕ) (r : Record) (old new : List State) → i < length rs → r ≡ get_or rs i r
-    → ((a : ℕ) → a % logs ≡ log → ¬ TellsState Bs As a r) → Replays log logs Bs As (take i rs) old new → Replays log logs Bs As (take (i + 1) rs) old new
+    → ((a : ℕ) → a % logs ≡ log → ¬ RecordTellsState Bs As a r) → Replays log logs Bs As (take i rs) old new → Replays log logs Bs As (take (i + 1) rs) old new
 replays_quiet log logs Bs As rs i r old new l at quiet h =
     subst (λ (z : List Record). Replays log logs Bs As z old new) (sym (taken rs i r l at))
-    (record { long = h.long; here = λ a d b e. over_quiet (TellsState Bs As a) (take i rs) (r ∷ []) (get_or old a d) (get_or new a d) (quiet a e, tt) (h.here a d b e); elsewhere = h.elsewhere })
+    (record { long = h.long; here = λ a d b e. over_quiet (RecordTellsState Bs As a) (take i rs) (r ∷ []) (get_or old a d) (get_or new a d) (quiet a e, tt) (h.here a d b e); elsewhere = h.elsewhere })
 
 -- a record tells of one actor
-tells_one : (Bs As : ℕ → Type 0) (a b : ℕ) (r : Record) → TellsState Bs As a r → TellsState Bs As b r → a ≡ b
+tells_one : (Bs As : ℕ → Type 0) (a b : ℕ) (r : Record) → RecordTellsState Bs As a r → RecordTellsState Bs As b r → a ≡ b
 tells_one Bs As a b (Genesis c s) t u = absurd t
 tells_one Bs As a b (BatchInfo k x n) t u = absurd t
 tells_one Bs As a b (BatchComplete k x s) t u = sym t.0 ∙ u.0
@@ -40,7 +40,7 @@ tells_one Bs As a b (ActCommit n m c x) t u = absurd t
 tells_one Bs As a b (BatchDone k v) t u = absurd t
 tells_one Bs As a b (ActDone n m c v x) t u = absurd t
 
-one_told : (log logs : ℕ) (Bs As : ℕ → Type 0) (rs : List Record) (r : Record) (k : ℕ) (s : State) (old mid : List State) → states_in r ≡ s ∷ [] → TellsState Bs As k r → k % logs ≡ log → k < length old
+one_told : (log logs : ℕ) (Bs As : ℕ → Type 0) (rs : List Record) (r : Record) (k : ℕ) (s : State) (old mid : List State) → states_in r ≡ s ∷ [] → RecordTellsState Bs As k r → k % logs ≡ log → k < length old
     → Replays log logs Bs As rs old mid → Replays log logs Bs As (rs ++ r ∷ []) old (set mid k s)
 one_told log logs Bs As rs r k s old mid told tells home low h = record {
   long = length-set mid k s ∙ h.long;
@@ -48,23 +48,23 @@ one_told log logs Bs As rs r k s old mid told tells home low h = record {
       elim (cases_eq a k) [
         | inl same ↦
             let now : get_or (set mid k s) a d ≡ s = ap (λ (z : ℕ). get_or (set mid k s) z d) same ∙ get_or-set_same mid k s d (omega (arith, h.long)) in
-            subst (λ (z : State). StateOver (TellsState Bs As a) (rs ++ r ∷ []) (get_or old a d) z) (sym now)
-            (over_counts (TellsState Bs As a) rs r (get_or old a d) s told (subst (λ (z : ℕ). TellsState Bs As z r) (sym same) tells))
+            subst (λ (z : State). StateOver (RecordTellsState Bs As a) (rs ++ r ∷ []) (get_or old a d) z) (sym now)
+            (over_counts (RecordTellsState Bs As a) rs r (get_or old a d) s told (subst (λ (z : ℕ). RecordTellsState Bs As z r) (sym same) tells))
         | inr apart ↦
-            subst (λ (z : State). StateOver (TellsState Bs As a) (rs ++ r ∷ []) (get_or old a d) z) (sym (get_or-set_other mid k a s d apart))
-            (over_quiet (TellsState Bs As a) rs (r ∷ []) (get_or old a d) (get_or mid a d) (λ t. apart (tells_one Bs As a k r t tells), tt) (h.here a d b e))
+            subst (λ (z : State). StateOver (RecordTellsState Bs As a) (rs ++ r ∷ []) (get_or old a d) z) (sym (get_or-set_other mid k a s d apart))
+            (over_quiet (RecordTellsState Bs As a) rs (r ∷ []) (get_or old a d) (get_or mid a d) (λ t. apart (tells_one Bs As a k r t tells), tt) (h.here a d b e))
       ];
   elsewhere = λ a d b away. get_or-set_other mid k a s d (λ e. away (ap (λ (z : ℕ). z % logs) e ∙ home)) ∙ h.elsewhere a d b away;
 }
 
 pub replays_step : (log logs : ℕ) (Bs As : ℕ → Type 0) (rs : List Record) (i : ℕ) (r : Record) (k : ℕ) (s : State) (old mid : List State) → i < length rs → r ≡ get_or rs i r
-    → states_in r ≡ s ∷ [] → TellsState Bs As k r → k % logs ≡ log → k < length old → Replays log logs Bs As (take i rs) old mid → Replays log logs Bs As (take (i + 1) rs) old (set mid k s)
+    → states_in r ≡ s ∷ [] → RecordTellsState Bs As k r → k % logs ≡ log → k < length old → Replays log logs Bs As (take i rs) old mid → Replays log logs Bs As (take (i + 1) rs) old (set mid k s)
 replays_step log logs Bs As rs i r k s old mid l at told tells home low h =
     subst (λ (z : List Record). Replays log logs Bs As z old (set mid k s)) (sym (taken rs i r l at))
     (one_told log logs Bs As (take i rs) r k s old mid told tells home low h)
 
 -- the record's actor is one
-tells_below : (n : ℕ) (Bs As : ℕ → Type 0) (k : ℕ) (r : Record) → TellsState Bs As k r → IsInRange n r → k < n
+tells_below : (n : ℕ) (Bs As : ℕ → Type 0) (k : ℕ) (r : Record) → RecordTellsState Bs As k r → IsInRange n r → k < n
 tells_below n Bs As k (Genesis c s) t h = absurd t
 tells_below n Bs As k (BatchInfo b x u) t h = absurd t
 tells_below n Bs As k (BatchComplete b x s) t h = let low : x.0 < n = h.actors_below.0 in omega (arith, low, t.0)
@@ -74,7 +74,7 @@ tells_below n Bs As k (ActCommit u m c x) t h = absurd t
 tells_below n Bs As k (BatchDone b v) t h = absurd t
 tells_below n Bs As k (ActDone u m c v x) t h = absurd t
 
-pub told_below : (n : ℕ) (Bs As : ℕ → Type 0) (rs : List Record) (i : ℕ) (r : Record) (k : ℕ) → i < length rs → r ≡ get_or rs i r → TellsState Bs As k r
+pub told_below : (n : ℕ) (Bs As : ℕ → Type 0) (rs : List Record) (i : ℕ) (r : Record) (k : ℕ) → i < length rs → r ≡ get_or rs i r → RecordTellsState Bs As k r
     → AllByRecursion (IsInRange n) rs → k < n
 told_below n Bs As rs i r k l at tells range =
     tells_below n Bs As k r tells (all_middle (IsInRange n) (take i rs) r (drop (i + 1) rs) (subst (AllByRecursion (IsInRange n)) (split_at rs i r l at) range))
@@ -90,7 +90,7 @@ pub states_begin : (logs : List (List Record)) (first : List State) → StatesTh
 states_begin logs first = record { long = refl; done = λ a d l h. absurd (omega arith); left = λ a d l h. refl }
 
 tells_counts : (logs : List (List Record)) (batches acts : BTreeSet ℕ) (a : ℕ) (r : Record) → HasCommitted kinds.Batch logs batches → HasCommitted kinds.Act logs acts
-    → Agree (TellsState (In batches) (In acts) a) (Counts logs a) r
+    → Agree (RecordTellsState (In batches) (In acts) a) (Counts logs a) r
 tells_counts logs batches acts a (Genesis c s) h g = (λ t. t, λ t. t)
 tells_counts logs batches acts a (BatchInfo b x t) h g = (λ t. t, λ t. t)
 tells_counts logs batches acts a (BatchComplete b x s) h g = (λ t. (t.0, (h b.0).0 t.1), λ t. (t.0, (h b.0).1 t.1))
@@ -108,10 +108,10 @@ states_through logs i rs batches acts first old new l at has_b has_a p h = recor
       elim (below_cases (a % length logs) i low) [
         | inl less ↦ subst (λ (z : State). IsStateOf logs a (get_or first a d) z) (sym (p.elsewhere a d (omega (arith, h.long)) (omega arith))) (h.done a d b less)
         | inr e ↦
-            let told : StateOver (TellsState (In batches) (In acts) a) rs (get_or first a d) (get_or new a d) =
-            subst (λ (z : State). StateOver (TellsState (In batches) (In acts) a) rs z (get_or new a d)) (h.left a d b (omega arith)) (p.here a d (omega (arith, h.long)) e) in
+            let told : StateOver (RecordTellsState (In batches) (In acts) a) rs (get_or first a d) (get_or new a d) =
+            subst (λ (z : State). StateOver (RecordTellsState (In batches) (In acts) a) rs z (get_or new a d)) (h.left a d b (omega arith)) (p.here a d (omega (arith, h.long)) e) in
             let counted : StateOver (Counts logs a) rs (get_or first a d) (get_or new a d) =
-            over_alike (TellsState (In batches) (In acts) a) (Counts logs a) rs (get_or first a d) (get_or new a d) (all_of_each (Agree (TellsState (In batches) (In acts) a) (Counts logs a)) rs (λ r. tells_counts logs batches acts a r has_b has_a)) told in
+            over_alike (RecordTellsState (In batches) (In acts) a) (Counts logs a) rs (get_or first a d) (get_or new a d) (all_of_each (Agree (RecordTellsState (In batches) (In acts) a) (Counts logs a)) rs (λ r. tells_counts logs batches acts a r has_b has_a)) told in
             subst (λ (z : List Record). StateOver (Counts logs a) z (get_or first a d) (get_or new a d)) (sym (at_log logs a i rs l at e)) counted
       ];
   left = λ a d b high. p.elsewhere a d (omega (arith, h.long)) (omega arith) ∙ h.left a d b (omega arith);

@@ -121,15 +121,15 @@ HasInfos key_at logs places = (n : ℕ) → IsLastPlaced (key_at n) (log_of logs
 -- ---- states
 
 -- a record that tells a state of the actor, of one of these batches or of these ACTs
-abbrev pub TellsState : (ℕ → Type 0) → (ℕ → Type 0) → ℕ → Record → Type 0
-TellsState Batches Acts a (Genesis count states) = ⊥
-TellsState Batches Acts a (BatchInfo bid actors tids) = ⊥
-TellsState Batches Acts a (BatchComplete bid actor state) = (actor.0 ≡ a) × Batches bid.0
-TellsState Batches Acts a (BatchCommit bid) = ⊥
-TellsState Batches Acts a (ActPrepare tid actor state) = (actor.0 ≡ a) × Acts tid.0
-TellsState Batches Acts a (ActCommit tid m c actors) = ⊥
-TellsState Batches Acts a (BatchDone bid values) = ⊥
-TellsState Batches Acts a (ActDone tid m c value actors) = ⊥
+abbrev pub RecordTellsState : (ℕ → Type 0) → (ℕ → Type 0) → ℕ → Record → Type 0
+RecordTellsState Batches Acts a (Genesis count states) = ⊥
+RecordTellsState Batches Acts a (BatchInfo bid actors tids) = ⊥
+RecordTellsState Batches Acts a (BatchComplete bid actor state) = (actor.0 ≡ a) × Batches bid.0
+RecordTellsState Batches Acts a (BatchCommit bid) = ⊥
+RecordTellsState Batches Acts a (ActPrepare tid actor state) = (actor.0 ≡ a) × Acts tid.0
+RecordTellsState Batches Acts a (ActCommit tid m c actors) = ⊥
+RecordTellsState Batches Acts a (BatchDone bid values) = ⊥
+RecordTellsState Batches Acts a (ActDone tid m c value actors) = ⊥
 
 -- the state of the last record that has P, and where none has it the first one
 abbrev pub StateOver : (Record → Type 0) → List Record → State → State → Type 0
@@ -141,7 +141,7 @@ StateOver P rs first s =
 pub record Replays (log logs : ℕ) (Batches Acts : ℕ → Type 0) (rs : List Record) (old new : List State) : Type 0 where
   pub long : length new ≡ length old
   pub here : (a : ℕ) (d : State) → a < length old → a % logs ≡ log
-      → StateOver (TellsState Batches Acts a) rs (slice_index_or old a d) (slice_index_or new a d)
+      → StateOver (RecordTellsState Batches Acts a) rs (slice_index_or old a d) (slice_index_or new a d)
   pub elsewhere : (a : ℕ) (d : State) → a < length old → a % logs ≢ log → slice_index_or new a d ≡ slice_index_or old a d
 
 -- ---- what is whole

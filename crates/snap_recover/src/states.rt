@@ -4,7 +4,7 @@ ghost use Rattle.std.specs.List.{AllByRecursion};
 ghost use Rattle.snap_recover.specs.declared.kinds.Kind.TheVariants as kinds;
 ghost use Rattle.snap_recover.specs.Logs.{all_of, states_in};
 ghost use Rattle.snap_recover.specs.Opening.{IsInRange, AreStatesOf};
-ghost use Rattle.snap_recover.specs.Passes.{In, HasCommitted, TellsState, Replays};
+ghost use Rattle.snap_recover.specs.Passes.{In, HasCommitted, RecordTellsState, Replays};
 
 use snap_base::{Memory, Sequence, State};
 use std::alloc::Global;
@@ -72,7 +72,7 @@ fn state_here(
     acts: &BTreeSet<u64>,
 ) -> Option<(usize, State)>
     requires some { 0 < logs }
-    ensures { MatchOption result ((a : ℕ) → a % logs ≡ log → ¬ TellsState (In batches.now) (In acts.now) a r.now) (λ x. (x.0 % logs ≡ log) × (states_in r.now ≡ x.1 ∷ []) × TellsState (In batches.now) (In acts.now) x.0 r.now) }
+    ensures { MatchOption result ((a : ℕ) → a % logs ≡ log → ¬ RecordTellsState (In batches.now) (In acts.now) a r.now) (λ x. (x.0 % logs ≡ log) × (states_in r.now ≡ x.1 ∷ []) × RecordTellsState (In batches.now) (In acts.now) x.0 r.now) }
 {
     match r {
         Record::BatchComplete { bid, actor, state } => {

@@ -5,7 +5,7 @@ use Rattle.std.specs.Io.KnownBytes.{Appends}
 use Rattle.std.proofs.KnownBytes.{Appends-nil, Appends-trans}
 use Rattle.aml_slice.specs.Controls.{Rest}
 use Rattle.gate_log.specs.declared.limits.TheConstants.{FARTHEST_END}
-use Rattle.gate_log.specs.State.{LogState}
+use Rattle.gate_log.specs.State.{LogState, AreAllOpen}
 use Rattle.protocol.specs.Events.{Event, Sync, Reply}
 use Rattle.protocol.specs.Fixed.{Fixed}
 use Rattle.protocol.specs.Runs.{IsRun, reached}
@@ -13,13 +13,14 @@ use Rattle.protocol_schedule.specs.Draw.{IsFrontOfSeed}
 use Rattle.run_effects.specs.Sizes.{most_bytes}
 use Rattle.run_effects.specs.record_log.Growth.{end_behind_groups}
 use Rattle.run_effects.specs.record_log.declared.limits.TheConstants.{FARTHEST_APPEND}
-use Rattle.run_effects.specs.Groups.{groups_of, group_by}
+use Rattle.run_effects.specs.Driven.{AreDriven, tried_on}
+use Rattle.run_effects.specs.Groups.{groups_of, group_by, group_behind}
 use Rattle.run_effects.specs.Laws.{line_by}
 use Rattle.run_effects.specs.Lines.{replies_text}
 use Rattle.snap_outside.specs.Causes.{Rose}
-use Rattle.solo_host.specs.Drives.{log_at, AreDriven, IsWhy, IsPrinted, tried_on}
+use Rattle.solo_host.specs.Drives.{log_at, failed_by, IsWhy, IsPrinted}
 use Rattle.run_effects.specs.RunsOf.{RunsOf}
-use Rattle.solo_host.specs.Outside.{Outside, Got, no_group, no_fault, AreLow, AreOfFormat2, AreAllOpen, IsPrepared, IsPicked, IsEnd}
+use Rattle.solo_host.specs.Outside.{Outside, Got, no_group, no_fault, AreLow, AreOfFormat2, IsPrepared, IsPicked, IsEnd}
 use Rattle.run_effects.specs.declared.stops.Stop.{Stop}
 use Rattle.run_effects.specs.declared.stops.Stop.TheVariants as stop
 use Rattle.solo_host.proofs.GotGroups.{got_nothing, got_join, got_open, got_same}
@@ -71,10 +72,10 @@ rose_since : (a b c : ℕ) → a ≤ b → Rose b c → Rose a c
 rose_since a b c le rose = omega (arith, le, rose)
 
 pub are_driven : (w : Fixed Rest) (seed : ℕ) (es : List Event) (why : Stop) (start now new : Outside) → IsDriving w seed es start now
-    → Got now.logs new.logs no_group (λ l. tried_on w l es why) → AreDriven w es why start.logs new.logs
+    → Got now.logs new.logs no_group (λ l. tried_on (failed_by why) l (group_behind w l es)) → AreDriven w es (failed_by why) start.logs new.logs
 are_driven w seed es why start now new driving got =
-    let all = got_same start.logs new.logs (λ l. groups_of w l es ++ []) (λ l. groups_of w l es) (λ l. tried_on w l es why) (λ l. append-nil (groups_of w l es))
-    (got_join start.logs now.logs new.logs (λ l. groups_of w l es) no_group (λ l. tried_on w l es why) driving.logs got) in
+    let all = got_same start.logs new.logs (λ l. groups_of w l es ++ []) (λ l. groups_of w l es) (λ l. tried_on (failed_by why) l (group_behind w l es)) (λ l. append-nil (groups_of w l es))
+    (got_join start.logs now.logs new.logs (λ l. groups_of w l es) no_group (λ l. tried_on (failed_by why) l (group_behind w l es)) driving.logs got) in
     (all.many, all.each)
 
 pub is_why : (w : Fixed Rest) (seed : ℕ) (es : List Event) (why : Stop) (start now new : Outside) → IsDriving w seed es start now → IsEnd w seed es why now new
@@ -113,12 +114,12 @@ is_printed w seed es stop.Memory start now new driving end = nothing_more w seed
 pub record IsOver (w : Fixed Rest) (seed : ℕ) (es : List Event) (end : Stop) (start new : Outside) : Type 0 where
   pub front : IsFrontOfSeed w seed es
   pub why : IsWhy w seed es start.logs new.logs start.faults new.faults end
-  pub logs : AreDriven w es end start.logs new.logs
+  pub logs : AreDriven w es (failed_by end) start.logs new.logs
   pub printed : IsPrinted w seed es start.taken new.taken end
   pub later : start.faults ≤ new.faults
 
 pub is_over : (w : Fixed Rest) (seed : ℕ) (es : List Event) (why : Stop) (start now new : Outside) → IsDriving w seed es start now
-    → Got now.logs new.logs no_group (λ l. tried_on w l es why) → IsEnd w seed es why now new → now.faults ≤ new.faults → IsOver w seed es why start new
+    → Got now.logs new.logs no_group (λ l. tried_on (failed_by why) l (group_behind w l es)) → IsEnd w seed es why now new → now.faults ≤ new.faults → IsOver w seed es why start new
 is_over w seed es why start now new driving got end later = record {
   front = driving.front;
   why = is_why w seed es why start now new driving end;

@@ -1,10 +1,10 @@
 -- Logs that got groups, one call after the other.
 use Rattle.std.proofs.Common.{◌≡◌, ℕ, Option, List, ◌++◌, refl, subst, ◌∙◌, arith}
-use Rattle.gate_log.specs.State.{LogState}
+use Rattle.gate_log.specs.State.{LogState, AreAllOpen}
 use Rattle.run_effects.specs.Driven.{IsDriven}
 use Rattle.run_effects.proofs.Driving.{driven_join, driven_same}
 use Rattle.solo_host.specs.Drives.{log_at}
-use Rattle.solo_host.specs.Outside.{Got, no_group, no_fault, AreAllOpen}
+use Rattle.solo_host.specs.Outside.{Got, no_group, no_fault}
 use Rattle.snap_core.specs.txn_records.declared.records.Record.{Record}
 
 pub got_nothing : (logs : List LogState) → AreAllOpen logs → Got logs logs no_group no_fault

@@ -12,7 +12,7 @@ use Rattle.gate_log.specs.declared.logs.AppendNo.{AppendNo}
 use Rattle.gate_log.specs.declared.logs.AppendNo.TheVariants as append
 use Rattle.snap_core.specs.log_set.Shown.{told_bytes}
 use Rattle.protocol.specs.Effects as effects
-use Rattle.gate_log.specs.State.{LogState, IsUntouched}
+use Rattle.gate_log.specs.State.{LogState, IsUntouched, AreAllOpen}
 use Rattle.protocol.specs.Conditions.{IsAllowed, conditions}
 use Rattle.protocol.specs.Events.{Event, Sync}
 use Rattle.protocol.specs.Fixed.{Fixed}
@@ -33,11 +33,11 @@ use Rattle.snap_core.specs.core_events.declared.events.Event as code
 use Rattle.snap_core.specs.core_events.declared.events.Event.TheVariants as events
 use Rattle.snap_core.specs.core_events.Meant.{event_meant}
 use Rattle.run_effects.specs.Appending.{IsAppended, IsNotAppended, IsCutOff}
-use Rattle.run_effects.specs.Driven.{IsDriven}
+use Rattle.run_effects.specs.Driven.{IsDriven, only_failed, tried_on}
 use Rattle.run_effects.specs.RunsOf.{RunsOf}
 use Rattle.run_effects.proofs.Driving.{pieces_spelled, driven_same, driven_none, driven_more, driven_cut_off}
-use Rattle.solo_host.specs.Drives.{log_at, tried_on}
-use Rattle.solo_host.specs.Outside.{Got, no_group, no_fault, AreLow, AreOfFormat2, AreAllOpen, IsPrepared, IsGivenUp, IsSynced, IsNotSynced, outside, stop_of}
+use Rattle.solo_host.specs.Drives.{log_at}
+use Rattle.solo_host.specs.Outside.{Got, no_group, no_fault, AreLow, AreOfFormat2, IsPrepared, IsGivenUp, IsSynced, IsNotSynced, outside, stop_of}
 use Rattle.run_effects.specs.declared.stops.Stop.{Stop}
 use Rattle.run_effects.specs.declared.stops.Stop.TheVariants as stop
 use Rattle.snap_core.specs.txn_records.declared.records.Record.{Record}
@@ -86,7 +86,7 @@ pub cut_off : FaultGrows → (w : Fixed Rest) (es : List Event) (l : ℕ) (logs 
 cut_off law w es l logs b within ready may is = (
   refl,
   subst (λ (x : LogState). Rose (log_at logs l).faults x.faults) (sym (get_or-set_same logs l b _ within)) is.rose,
-  got_set logs l b no_group (λ i. tried_on w i es (stop.LogFault l)) within ready
+  got_set logs l b no_group (λ i. tried_on (only_failed l) i (group_behind w i es)) within ready
       (subst (λ t. IsDriven (log_at logs l) b [] t) (sym (if_same l (Some (group_behind w l es)) None)) (driven_cut_off law (log_at logs l) b (group_behind w l es) may is))
       (λ k other. (refl, if_other l k (Some (group_behind w k es)) None other)),
 )

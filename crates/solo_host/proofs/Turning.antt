@@ -2,7 +2,7 @@
 use Rattle.std.proofs.Common.{◌≡◌, ℕ, ◌+◌, ◌-◌, ◌*◌, ◌≤◌, ◌<◌, true, None, Option, Result, Ok, Err, List, [], ◌∷◌, ◌++◌, length, map, refl, sym, ap, subst, ◌∙◌, arith}
 use Rattle.std.specs.Prelude.{MatchResult}
 use Rattle.std.specs.Io.KnownBytes.{Appends}
-use Rattle.gate_log.specs.State.{LogState}
+use Rattle.gate_log.specs.State.{LogState, AreAllOpen}
 use Rattle.protocol.specs.Conditions.{IsAllowed}
 use Rattle.std.proofs.lemmas.List.{length-append, length-map}
 use Rattle.aml_slice.specs.Controls.{Rest}
@@ -13,17 +13,17 @@ use Rattle.protocol.specs.Events.{Event, Sync, Reply}
 use Rattle.protocol.specs.Fixed.{Fixed}
 use Rattle.protocol.specs.Parts.{Machine}
 use Rattle.protocol.specs.Runs.{IsRun, reached}
-use Rattle.run_effects.specs.Groups.{group_by}
+use Rattle.run_effects.specs.Groups.{group_by, group_behind}
 use Rattle.run_effects.specs.Laws.{line_by}
 use Rattle.snap_core.specs.Cores.{CoreState, IsAt}
 use Rattle.snap_core.specs.snap_hand.Steps.{may_want}
 use Rattle.snap_core.specs.protocol_theorems.Left.{most_events}
 use Rattle.snap_core.specs.snap_hand.Tables.{fixed_of}
 use Rattle.snap_core.specs.snap_hand.declared.tables.Tables.{Tables}
-use Rattle.run_effects.specs.Driven.{IsDriven}
-use Rattle.solo_host.specs.Drives.{log_at, tried_on}
+use Rattle.run_effects.specs.Driven.{IsDriven, tried_on}
+use Rattle.solo_host.specs.Drives.{log_at, failed_by}
 use Rattle.run_effects.specs.RunsOf.{RunsOf}
-use Rattle.solo_host.specs.Outside.{Outside, outside, IsSynced, IsNotSynced, no_group, no_fault, AreAllOpen, IsPrepared, IsFailure, IsGivenUp, IsPicked, IsEnd}
+use Rattle.solo_host.specs.Outside.{Outside, outside, IsSynced, IsNotSynced, no_group, no_fault, IsPrepared, IsFailure, IsGivenUp, IsPicked, IsEnd}
 use Rattle.solo_host.specs.Turns.{HasGoneOn, HasStopped}
 use Rattle.run_effects.specs.declared.stops.Stop.{Stop}
 use Rattle.run_effects.specs.declared.stops.Stop.TheVariants as stop
@@ -45,7 +45,7 @@ wants_no_line w es e is = refl
 
 -- nothing was done, and nothing is allowed or there was no memory
 pub idle : (seed : ℕ) (core : CoreState) (es : List Event) (why : Stop) (now : Outside) → IsAt core es → AreAllOpen now.logs
-    → ((l : ℕ) → tried_on (fixed_of core.tables) l es why ≡ None) → IsEnd (fixed_of core.tables) seed es why now now → HasStopped seed core core es es why now now
+    → ((l : ℕ) → tried_on (failed_by why) l (group_behind (fixed_of core.tables) l es) ≡ None) → IsEnd (fixed_of core.tables) seed es why now now → HasStopped seed core core es es why now now
 idle seed core es why now at ready untried end = record {
   same = refl;
   at = at;

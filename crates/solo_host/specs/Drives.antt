@@ -1,5 +1,5 @@
 -- What one thread makes of a core, its logs and its output.
-use Rattle.std.specs.Prelude.{◌≡◌, ⊤, ℕ, ◌<◌, ◌==◌, if◌then◌else◌, Option, None, Some, List, [], ◌∷◌, ◌++◌, length}
+use Rattle.std.specs.Prelude.{◌≡◌, ⊤, ℕ, ◌<◌, Bool, Option, List, [], ◌∷◌, ◌++◌, length}
 use Rattle.std.specs.Io.KnownBytes.{Appends}
 use Rattle.aml_slice.specs.Controls.{Rest}
 pub use Rattle.gate_log.specs.State.{log_at}
@@ -8,24 +8,20 @@ use Rattle.protocol.specs.Events.{Event, Sync, Reply}
 use Rattle.protocol.specs.Fixed.{Fixed}
 use Rattle.protocol.specs.Runs.{IsQuiet, reached}
 use Rattle.protocol_schedule.specs.Draw.{IsFrontOfSeed}
-use Rattle.run_effects.specs.Driven.{IsDriven}
-use Rattle.run_effects.specs.Groups.{groups_of, group_behind}
+use Rattle.run_effects.specs.Driven.{none_failed, only_failed}
 use Rattle.run_effects.specs.Lines.{line_in, replies_text}
 use Rattle.snap_outside.specs.Causes.{Rose}
 use Rattle.run_effects.specs.declared.stops.Stop.{Stop}
 use Rattle.run_effects.specs.declared.stops.Stop.TheVariants as stop
-use Rattle.snap_core.specs.txn_records.declared.records.Record.{Record}
 
 -- ---- the logs
 
--- the append that met a fault on log l
-abbrev pub tried_on : Fixed Rest → ℕ → List Event → Stop → Option (List Record)
-tried_on w l es (stop.LogFault k) = if k == l then Some (group_behind w l es) else None
-tried_on w l es _ = None
-
--- each log got a group for each of its Syncs
-abbrev pub AreDriven : Fixed Rest → List Event → Stop → List LogState → List LogState → Type 0
-AreDriven w es why old new = (length new ≡ length old) × ((l : ℕ) → l < length old → IsDriven (log_at old l) (log_at new l) (groups_of w l es) (tried_on w l es why))
+-- the log that it ended at, where its device failed
+abbrev pub failed_by : Stop → ℕ → Bool
+failed_by stop.Quiet = none_failed
+failed_by (stop.LogFault log) = only_failed log
+failed_by stop.OutFault = none_failed
+failed_by stop.Memory = none_failed
 
 -- ---- why it ended
 

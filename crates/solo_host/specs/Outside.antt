@@ -1,6 +1,6 @@
 -- Only private contracts cite this; the rule is Drives.antt.
 -- What one turn of the host does to the outside, before its event.
-use Rattle.std.specs.Prelude.{◌≡◌, ℕ, ◌+◌, ◌≤◌, ◌<◌, false, Option, None, List, [], ◌++◌, length, slice_get, Some}
+use Rattle.std.specs.Prelude.{◌≡◌, ℕ, ◌+◌, ◌≤◌, ◌<◌, Option, None, List, [], ◌++◌, length, slice_get, Some}
 use Rattle.std.specs.Io.KnownBytes.{Appends}
 use Rattle.aml_slice.specs.Controls.{Rest}
 use Rattle.gate_log.specs.State.{LogState}
@@ -14,12 +14,12 @@ use Rattle.protocol.specs.Schedule.{IsEnabled, pick}
 use Rattle.protocol_schedule.specs.Draw.{draw_of}
 use Rattle.run_effects.specs.Sizes.{most_bytes}
 use Rattle.run_effects.specs.record_log.declared.limits.TheConstants.{FARTHEST_APPEND}
-use Rattle.run_effects.specs.Driven.{IsDriven}
-use Rattle.run_effects.specs.Groups.{group_by}
+use Rattle.run_effects.specs.Driven.{IsDriven, only_failed, tried_on}
+use Rattle.run_effects.specs.Groups.{group_by, group_behind}
 use Rattle.run_effects.specs.Laws.{line_by}
 use Rattle.run_effects.specs.Lines.{line_in}
 use Rattle.snap_outside.specs.Causes.{Rose}
-use Rattle.solo_host.specs.Drives.{log_at, tried_on}
+use Rattle.solo_host.specs.Drives.{log_at, failed_by}
 use Rattle.run_effects.specs.declared.stops.Stop.{Stop}
 use Rattle.run_effects.specs.declared.stops.Stop.TheVariants as stop
 use Rattle.snap_core.specs.txn_records.declared.records.Record.{Record}
@@ -33,10 +33,6 @@ pub record Outside : Type 0 where
 
 abbrev pub outside : List LogState → Option (List ℕ) → ℕ → Outside
 outside logs taken faults = record { logs = logs; taken = taken; faults = faults }
-
--- no append has met a fault
-abbrev pub AreAllOpen : List LogState → Type 0
-AreAllOpen logs = (l : ℕ) → l < length logs → (log_at logs l).shut ≡ false
 
 -- each is of format 2, which takes appends
 abbrev pub AreOfFormat2 : List LogState → Type 0
@@ -71,7 +67,7 @@ IsSynced w es l old new = Got old new (λ k. group_by k (Sync l) (reached w es))
 
 -- its device failed in the append of its group, or there was no memory
 abbrev pub IsNotSynced : Fixed Rest → List Event → ℕ → Stop → List LogState → List LogState → Type 0
-IsNotSynced w es l (stop.LogFault k) old new = (k ≡ l) × Rose (log_at old k).faults (log_at new k).faults × Got old new no_group (λ i. tried_on w i es (stop.LogFault k))
+IsNotSynced w es l (stop.LogFault k) old new = (k ≡ l) × Rose (log_at old k).faults (log_at new k).faults × Got old new no_group (λ i. tried_on (only_failed k) i (group_behind w i es))
 IsNotSynced w es l stop.Memory old new = Got old new no_group no_fault
 IsNotSynced w es l _ old new = ⊥
 
@@ -111,7 +107,7 @@ IsFailure w es e stop.Memory old new = Appends old.taken new.taken []
 IsFailure w es e stop.Quiet old new = ⊥
 
 pub record IsGivenUp (w : Fixed Rest) (es : List Event) (e : Event) (why : Stop) (old new : Outside) : Type 0 where
-  pub logs : Got old.logs new.logs no_group (λ l. tried_on w l es why)
+  pub logs : Got old.logs new.logs no_group (λ l. tried_on (failed_by why) l (group_behind w l es))
   pub failure : IsFailure w es e why old new
   pub later : old.faults ≤ new.faults
 

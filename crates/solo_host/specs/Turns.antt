@@ -13,7 +13,9 @@ use Rattle.protocol_schedule.specs.Draw.{generator_of}
 use Rattle.snap_core.specs.ready_renewal.Covering.{Covers}
 use Rattle.snap_core.specs.Cores.{CoreState, IsAt}
 use Rattle.snap_core.specs.snap_hand.Tables.{fixed_of}
-use Rattle.solo_host.specs.Drives.{tried_on}
+use Rattle.run_effects.specs.Driven.{tried_on}
+use Rattle.run_effects.specs.Groups.{group_behind}
+use Rattle.solo_host.specs.Drives.{failed_by}
 use Rattle.solo_host.specs.Outside.{Outside, Got, no_group, IsPrepared, IsPicked, IsEnd}
 use Rattle.run_effects.specs.declared.stops.Stop.{Stop}
 
@@ -48,6 +50,6 @@ pub record HasGoneOn (seed : ℕ) (core now : CoreState) (es kept : List Event) 
 pub record HasStopped (seed : ℕ) (core now : CoreState) (es kept : List Event) (why : Stop) (old new : Outside) : Type 0 where
   pub same : kept ≡ es
   pub at : IsAt now kept
-  pub logs : Got old.logs new.logs no_group (λ l. tried_on (fixed_of core.tables) l es why)
+  pub logs : Got old.logs new.logs no_group (λ l. tried_on (failed_by why) l (group_behind (fixed_of core.tables) l es))
   pub end : IsEnd (fixed_of core.tables) seed es why old new
   pub later : old.faults ≤ new.faults

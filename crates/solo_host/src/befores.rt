@@ -1,5 +1,6 @@
 //! What is done before an event.
 ghost use Rattle.std.specs.Prelude.{◌≡◌, List, length, IsErrOf, MatchResult};
+ghost use Rattle.gate_log.specs.State.{AreAllOpen};
 ghost use Rattle.snap_core.specs.core_events.Meant.{event_meant};
 ghost use Rattle.protocol.specs.Conditions.{IsAllowed};
 ghost use Rattle.protocol.specs.Events as machine;
@@ -7,7 +8,7 @@ ghost use Rattle.snap_core.specs.Cores.{IsAt, state_at};
 ghost use Rattle.snap_core.specs.snap_hand.Tables.{fixed_of};
 ghost use Rattle.snap_outside.specs.Causes.{EndsAtFault};
 ghost use Rattle.run_effects.specs.RunsOf.{RunsOf};
-ghost use Rattle.solo_host.specs.Outside.{AreLow, AreOfFormat2, AreAllOpen, outside, IsPrepared, IsGivenUp};
+ghost use Rattle.solo_host.specs.Outside.{AreLow, AreOfFormat2, outside, IsPrepared, IsGivenUp};
 
 use crate::groups::before_sync;
 use crate::replies::before_reply;

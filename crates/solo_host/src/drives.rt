@@ -6,7 +6,8 @@ ghost use Rattle.protocol_schedule.specs.Draw.{IsFrontOfSeed};
 ghost use Rattle.snap_core.specs.Cores.{IsAt};
 ghost use Rattle.snap_core.specs.snap_hand.Tables.{fixed_of};
 ghost use Rattle.snap_outside.specs.Causes.{EndsAtFault};
-ghost use Rattle.solo_host.specs.Drives.{AreDriven, IsPrinted, IsWhy};
+ghost use Rattle.run_effects.specs.Driven.{AreDriven};
+ghost use Rattle.solo_host.specs.Drives.{IsPrinted, IsWhy, failed_by};
 
 use crate::picks::generator_of;
 use crate::turns::turn;
@@ -48,7 +49,7 @@ pub fn drive<D: LogDev, O: Sink>(
     ensures tables { core.new.tables ≡ core.old.tables }
     ensures why { IsWhy (fixed_of core.old.tables) seed (map event_meant result.kept.items) logs.old.items logs.new.items (O.faults out.old) (O.faults out.new) result.stop }
     // The logs got the groups of its Syncs, and nothing else.
-    ensures logs { AreDriven (fixed_of core.old.tables) (map event_meant result.kept.items) result.stop logs.old.items logs.new.items }
+    ensures logs { AreDriven (fixed_of core.old.tables) (map event_meant result.kept.items) (failed_by result.stop) logs.old.items logs.new.items }
     // The output got the lines of its replies.
     ensures printed { IsPrinted (fixed_of core.old.tables) seed (map event_meant result.kept.items) (O.taken out.old) (O.taken out.new) result.stop }
     ensures later { O.faults out.old ≤ O.faults out.new }

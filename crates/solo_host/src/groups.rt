@@ -1,10 +1,11 @@
 //! What is appended to a log's device before its Sync.
 ghost use Rattle.std.specs.Prelude.{◌≡◌, ◌<◌, ℕ, List, length, false, MatchResult};
+ghost use Rattle.gate_log.specs.State.{AreAllOpen};
 ghost use Rattle.protocol.specs.Events as machine;
 ghost use Rattle.snap_core.specs.Cores.{IsAt};
 ghost use Rattle.snap_core.specs.snap_hand.Tables.{fixed_of};
 ghost use Rattle.run_effects.specs.RunsOf.{RunsOf};
-ghost use Rattle.solo_host.specs.Outside.{AreLow, AreOfFormat2, AreAllOpen, IsSynced, IsNotSynced, stop_of};
+ghost use Rattle.solo_host.specs.Outside.{AreLow, AreOfFormat2, IsSynced, IsNotSynced, stop_of};
 
 use gate_log::{AppendNo, Log};
 use run_effects::{Stop, append_pieces, history_grows};

@@ -1,11 +1,12 @@
 //! One turn: an event is picked, what stands before it is done, and it is taken.
 ghost use Rattle.std.specs.Prelude.{None, Some, ◌≡◌, ◌≢◌, ◌<◌, [], ◌∷◌, ◌++◌, length, map, vec_len, vec_capacity, MatchOption};
+ghost use Rattle.gate_log.specs.State.{AreAllOpen};
 ghost use Rattle.snap_core.specs.core_events.Meant.{event_meant};
 ghost use Rattle.snap_core.specs.Cores.{IsAt, state_at};
 ghost use Rattle.snap_core.specs.snap_hand.Tables.{fixed_of};
 ghost use Rattle.snap_outside.specs.Causes.{EndsAtFault};
 ghost use Rattle.run_effects.specs.RunsOf.{RunsOf};
-ghost use Rattle.solo_host.specs.Outside.{AreLow, AreOfFormat2, AreAllOpen, outside};
+ghost use Rattle.solo_host.specs.Outside.{AreLow, AreOfFormat2, outside};
 ghost use Rattle.solo_host.specs.Turns.{HasGoneOn, HasStopped, IsBehindWords, IsKeptFor, IsOneBehind};
 
 use crate::befores::before;

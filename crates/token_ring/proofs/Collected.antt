@@ -8,7 +8,7 @@ use Rattle.protocol.specs.Fixed.{no_tx, declared}
 use Rattle.protocol.specs.Parts.{Pact, SubBatch}
 use Rattle.protocol.specs.Words.{is_empty, is_among, below}
 use Rattle.protocol.specs.OnRing.{numbered}
-use Rattle.token_ring.specs.Told.{ends_with, first_sub, with_tid, told_among, told_to, told_all}
+use Rattle.token_ring.specs.Told.{ends_with, sub_of_first_pact, with_tid, told_among, told_to, told_all}
 
 -- ---- the sub-batches of actors that are told of some tids
 
@@ -77,7 +77,7 @@ one_cond : (b : Bool) (k e : ℕ) (lasts : List ℕ) (n u : ℕ) (us vs : List �
 one_cond true k e lasts n u us vs = refl
 one_cond false k e lasts n u us vs = refl
 
-told_one : (k e : ℕ) (lasts : List ℕ) (t n : ℕ) (ts : List ℕ) → told_among t (first_sub k e lasts n t) (one k e lasts n ts) ≡ one k e lasts n (cond (ends_with t ts) ts (ts ++ t ∷ []))
+told_one : (k e : ℕ) (lasts : List ℕ) (t n : ℕ) (ts : List ℕ) → told_among t (sub_of_first_pact k e lasts n t) (one k e lasts n ts) ≡ one k e lasts n (cond (ends_with t ts) ts (ts ++ t ∷ []))
 told_one k e lasts t n [] = refl
 told_one k e lasts t n (u ∷ us) =
     cond-false (ltb n n) _ _ (le-ltb _ _ (omega arith))
@@ -86,20 +86,20 @@ told_one k e lasts t n (u ∷ us) =
 
 -- where one actor is told of t
 told_by : (k e : ℕ) (lasts : List ℕ) (t b : ℕ) (f g : ℕ → List ℕ) (n : ℕ) → b < n → g b ≡ cond (ends_with t (f b)) (f b) (f b ++ t ∷ []) → ((a : ℕ) → (a ≡ b → ⊥) → f a ≡ g a)
-    → told_among t (first_sub k e lasts b t) (subs_by k e lasts f n) ≡ subs_by k e lasts g n
+    → told_among t (sub_of_first_pact k e lasts b t) (subs_by k e lasts f n) ≡ subs_by k e lasts g n
 told_by k e lasts t b f g zero l at others = absurd (omega arith)
 told_by k e lasts t b f g (suc n) l at others =
     ⊎_elim
     (λ (before : b < n).
-    told_before k e lasts t n (f n) (first_sub k e lasts b t) (subs_by k e lasts f n) before
+    told_before k e lasts t n (f n) (sub_of_first_pact k e lasts b t) (subs_by k e lasts f n) before
     ∙ ap (λ front. front ++ one k e lasts n (f n)) (told_by k e lasts t b f g n before at others)
     ∙ ap (λ ts. subs_by k e lasts g n ++ one k e lasts n ts) (others n (λ same. omega arith)))
     (λ (here : n ≤ b).
     let same : n ≡ b = omega arith in
-    told_behind t n (first_sub k e lasts b t) (subs_by k e lasts f n) (one k e lasts n (f n)) (up_to k e lasts f n) here
-    ∙ ap (λ front. front ++ told_among t (first_sub k e lasts b t) (one k e lasts n (f n))) (subs_same k e lasts f g n (λ a m. others a (λ s. omega arith)))
+    told_behind t n (sub_of_first_pact k e lasts b t) (subs_by k e lasts f n) (one k e lasts n (f n)) (up_to k e lasts f n) here
+    ∙ ap (λ front. front ++ told_among t (sub_of_first_pact k e lasts b t) (one k e lasts n (f n))) (subs_same k e lasts f g n (λ a m. others a (λ s. omega arith)))
     ∙ ap (λ back. subs_by k e lasts g n ++ back)
-    (ap (λ c. told_among t (first_sub k e lasts c t) (one k e lasts n (f n))) (sym same)
+    (ap (λ c. told_among t (sub_of_first_pact k e lasts c t) (one k e lasts n (f n))) (sym same)
     ∙ told_one k e lasts t n (f n)
     ∙ ap (λ c. one k e lasts n (cond (ends_with t (f c)) (f c) (f c ++ t ∷ []))) same
     ∙ ap (λ ts. one k e lasts n ts) (sym at)
@@ -134,11 +134,11 @@ plus_same : (t : ℕ) (f : ℕ → List ℕ) (m p : ℕ → Bool) (a : ℕ) → 
 plus_same t f m p a e = ap (λ b. cond b (f a ++ t ∷ []) (f a)) e
 
 told_next : (k e : ℕ) (lasts : List ℕ) (t d : ℕ) (f : ℕ → List ℕ) (m : ℕ → Bool) → ((a : ℕ) → ends_with t (f a) ≡ false)
-    → cond (ltb d (length lasts)) (told_among t (first_sub k e lasts d t) (subs_by k e lasts (plus t f m) (length lasts))) (subs_by k e lasts (plus t f m) (length lasts))
+    → cond (ltb d (length lasts)) (told_among t (sub_of_first_pact k e lasts d t) (subs_by k e lasts (plus t f m) (length lasts))) (subs_by k e lasts (plus t f m) (length lasts))
     ≡ subs_by k e lasts (plus t f (λ a. m a || eqb d a)) (length lasts)
 told_next k e lasts t d f m new =
     let P : List SubBatch → Type 0 = λ x. x ≡ subs_by k e lasts (plus t f (λ a. m a || eqb d a)) (length lasts) in
-    cond_both (ltb d (length lasts)) (told_among t (first_sub k e lasts d t) (subs_by k e lasts (plus t f m) (length lasts))) (subs_by k e lasts (plus t f m) (length lasts)) P
+    cond_both (ltb d (length lasts)) (told_among t (sub_of_first_pact k e lasts d t) (subs_by k e lasts (plus t f m) (length lasts))) (subs_by k e lasts (plus t f m) (length lasts)) P
     (λ l. told_by k e lasts t d (plus t f m) (plus t f (λ a. m a || eqb d a)) (length lasts) (ltb-true _ _ l)
     (ap (λ b. cond (m d || b) (f d ++ t ∷ []) (f d)) (eq-eqb d d refl) ∙ told_once (m d) t (f d) (new d))
     (λ a other. plus_same t f m (λ c. m c || eqb d c) a (sym (ap (λ b. m a || b) (ne_eqb d a (λ s. other (sym s))) ∙ or_false (m a)))))

@@ -16,8 +16,8 @@ leading a [] = 0
 leading a (b ∷ bs) = if nat_lt b a then suc (leading a bs) else 0
 
 -- of batch k, to an actor: its first PACT
-abbrev pub first_sub : ℕ → ℕ → List ℕ → ℕ → ℕ → SubBatch
-first_sub k epoch lasts a t = record { bid = k; actor = a; epoch = epoch; prev = slice_index_or lasts a 0; tids = t ∷ [] }
+abbrev pub sub_of_first_pact : ℕ → ℕ → List ℕ → ℕ → ℕ → SubBatch
+sub_of_first_pact k epoch lasts a t = record { bid = k; actor = a; epoch = epoch; prev = slice_index_or lasts a 0; tids = t ∷ [] }
 
 -- one more PACT; a PACT that names the actor twice is told once
 abbrev pub with_tid : ℕ → SubBatch → SubBatch
@@ -37,7 +37,7 @@ told_among t own (s ∷ ss) = if nat_lt s.actor own.actor then s ∷ told_among 
 abbrev pub told_to : ℕ → ℕ → List ℕ → ℕ → List ℕ → List SubBatch → List SubBatch
 told_to k epoch lasts t [] subs = subs
 told_to k epoch lasts t (a ∷ actors) subs =
-    told_to k epoch lasts t actors (if nat_lt a (length lasts) then told_among t (first_sub k epoch lasts a t) subs else subs)
+    told_to k epoch lasts t actors (if nat_lt a (length lasts) then told_among t (sub_of_first_pact k epoch lasts a t) subs else subs)
 
 -- of each of the PACTs
 abbrev pub told_all : ℕ → ℕ → List ℕ → List Tx → List Pact → List SubBatch → List SubBatch

@@ -2,7 +2,7 @@
 ghost use Rattle.std.specs.Prelude.{◌≡◌, ◌+◌, ◌<◌, ◌≤◌, [], length, map, is_ok, slice_index_or, OnOk, IfOk};
 ghost use Rattle.protocol.specs.Fixed.{no_tx, declared};
 ghost use Rattle.protocol.specs.Meant.{batch_pact, sub_batch, subs_actor, tid_number};
-ghost use Rattle.token_ring.specs.Told.{ends_with, leading, first_sub, with_tid, told_among, told_to, told_all, ActorsAscend};
+ghost use Rattle.token_ring.specs.Told.{ends_with, leading, sub_of_first_pact, with_tid, told_among, told_to, told_all, ActorsAscend};
 
 use snap_base::{ActorId, Bid, Memory, Sequence, SubBatch, Tid, Tx, TxNo};
 use std::alloc::Global;
@@ -82,7 +82,7 @@ fn tell(
 ) -> Result<(), Memory>
     requires exists { actor.0 < length heading.now.lasts.now }
     requires ascend { ActorsAscend 0 (map sub_batch subs.old.items) }
-    ensures told { OnOk result (map sub_batch subs.new.items ≡ told_among tid.0 (first_sub heading.now.bid.0 heading.now.epoch heading.now.lasts.now actor.0 tid.0) (map sub_batch subs.old.items)) }
+    ensures told { OnOk result (map sub_batch subs.new.items ≡ told_among tid.0 (sub_of_first_pact heading.now.bid.0 heading.now.epoch heading.now.lasts.now actor.0 tid.0) (map sub_batch subs.old.items)) }
     ensures ascend { OnOk result (ActorsAscend 0 (map sub_batch subs.new.items)) }
 {
     let at = place_of(subs.as_slice(), actor);
@@ -107,7 +107,7 @@ fn place_of(subs: &[SubBatch], actor: ActorId) -> usize
 /// The sub-batch of an actor with its first PACT.
 fn begin(alloc: Global, heading: &Heading, actor: ActorId, tid: Tid) -> Result<SubBatch, Memory>
     requires { actor.0 < length heading.now.lasts.now }
-    ensures { IfOk result (λ s. sub_batch s ≡ first_sub heading.now.bid.0 heading.now.epoch heading.now.lasts.now actor.0 tid.0) }
+    ensures { IfOk result (λ s. sub_batch s ≡ sub_of_first_pact heading.now.bid.0 heading.now.epoch heading.now.lasts.now actor.0 tid.0) }
 {
     let mut tids = Sequence::new(alloc);
     tids.push(tid)?;

@@ -21,7 +21,7 @@ use Rattle.protocol_records.specs.Crash.{AtEveryMoment, is_in, tids_in, bids_in,
 use Rattle.protocol_laws.specs.Told.{has_number, DoneFrom, IsDonePact, PactFrom}
 use Rattle.protocol_laws.specs.Marks.{Known}
 use Rattle.protocol_laws.specs.Ranges.{IsWithin, BatchInRange, ActInRange, NumbersInRange}
-use Rattle.protocol_records.specs.RecordLaws.{batch_actors, batch_tids, act_actors, TellsOf}
+use Rattle.protocol_records.specs.RecordLaws.{batch_actors, batch_pact_tids, act_actors, TellsOf}
 use Rattle.protocol_records.specs.NextNumbers.{numbers_in, next_number, next_tid_of, next_bid_of, next_c_of, IsPlaceWithin, IsNumberedWithin, NextNumbersStand}
 use Rattle.protocol_laws.proofs.first.Along.{along}
 use Rattle.protocol_laws.proofs.first.Lists.{all_join, all_front, all_back, all_mid, all_take, all_found, weaker}
@@ -96,7 +96,7 @@ act_drawn w s t x r e = let g = all_found (ActInRange w s) (λ x. x.tid == t) s.
 
 tids_drawn : {C : Type 0} (w : Fixed C) (s : Machine C) (r : LogRecord) → Numbers w s → TellsOf s.desk.batches s.book.acts r → AllByRecursion (λ n. n < s.ring.next_tid) (tids_in r)
 tids_drawn w s (BatchInfo k actors tids) n t =
-    let b = some_mapped batch_tids (batch_of k s.desk.batches) tids t.1 in
+    let b = some_mapped batch_pact_tids (batch_of k s.desk.batches) tids t.1 in
     let g = all_found (BatchInRange w s) (λ b. b.bid == k) s.desk.batches b.0 n.range.batches b.1 in
     subst (AllByRecursion (λ n. n < s.ring.next_tid)) b.2 (tids_all w.text.opening.next_tid s.ring.next_tid b.0.pacts g.0.tids)
 tids_drawn w s (BatchComplete k a st) n t = tt
@@ -106,7 +106,7 @@ tids_drawn w s (ActDone u m c v actors) n t = (act_drawn w s u t.act n.range t.f
 
 bids_drawn : {C : Type 0} (w : Fixed C) (s : Machine C) (h : History) (r : LogRecord) → Numbers w s → Acts s h → TellsOf s.desk.batches s.book.acts r → AllByRecursion (λ n. n < s.ring.next_bid) (bids_in r)
 unfolding Acts
-bids_drawn w s h (BatchInfo k actors tids) n ac t = let b = some_mapped batch_tids (batch_of k s.desk.batches) tids t.1 in (batch_drawn w s k b.0 n.range b.1, tt)
+bids_drawn w s h (BatchInfo k actors tids) n ac t = let b = some_mapped batch_pact_tids (batch_of k s.desk.batches) tids t.1 in (batch_drawn w s k b.0 n.range b.1, tt)
 bids_drawn w s h (BatchComplete k a st) n ac t = let b = one_is (λ b. is_among a (batch_actors b)) (batch_of k s.desk.batches) t in (batch_drawn w s k b.0 n.range b.1, tt)
 bids_drawn w s h (BatchDone k vs) n ac t = let b = one_is (λ b. not (is_formed b.stage)) (batch_of k s.desk.batches) t.0 in (batch_drawn w s k b.0 n.range b.1, tt)
 bids_drawn w s h (ActPrepare u a st) n ac t = tt
@@ -139,7 +139,7 @@ member_pact w finish s h logs k d some n kn f p i e =
     let old = of_pact w s h k d n kn p i in
     let q = f.whole_batches k e in
     let t = all_mid (TellsOf s.desk.batches s.book.acts) (BatchInfo k q.actors q.tids) q.front q.rest (subst (AllByRecursion (TellsOf s.desk.batches s.book.acts)) q.info (f.tells (k % w.text.logs))) in
-    let b = some_mapped batch_tids (batch_of k s.desk.batches) q.tids t.1 in
+    let b = some_mapped batch_pact_tids (batch_of k s.desk.batches) q.tids t.1 in
     let tids = is_below tids_in w.text.opening.next_tid w.text.logs (k % w.text.logs) logs q.front q.rest (BatchInfo k q.actors q.tids) (mod-lt k some) q.info in
     let bids = is_below bids_in w.text.opening.next_bid w.text.logs (k % w.text.logs) logs q.front q.rest (BatchInfo k q.actors q.tids) (mod-lt k some) q.info in
     let place = subst (λ z. IsPlaceWithin w s.ring.next_bid s.book.next_c z d.place) i old.place in

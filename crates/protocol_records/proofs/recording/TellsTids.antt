@@ -17,7 +17,7 @@ use Rattle.protocol.specs.OnBook as book
 use Rattle.protocol.specs.History.{History}
 use Rattle.protocol_laws.proofs.machine.ActsTold.{at_placed, at_live, at_sealed, at_decided, now_at}
 use Rattle.protocol_laws.specs.Told.{has_number}
-use Rattle.protocol_records.specs.RecordLaws.{record_key, home, batch_tids}
+use Rattle.protocol_records.specs.RecordLaws.{record_key, home, batch_pact_tids}
 use Rattle.protocol_laws.proofs.first.EpochsKept as epochs
 use Rattle.protocol_laws.proofs.first.Frames.{frame}
 use Rattle.protocol_laws.proofs.machine.ControlWalk.{AllControls}
@@ -65,7 +65,7 @@ home_opened many P n l = subst (AllByRecursion (P l)) (sym (no_records n l)) tt
 -- ---- the tids of a batch
 
 abbrev pub TidsAre : List Batch → LogRecord → Type 0
-TidsAre bs (BatchInfo k actors tids) = option_map batch_tids (batch_of k bs) ≡ Some tids
+TidsAre bs (BatchInfo k actors tids) = option_map batch_pact_tids (batch_of k bs) ≡ Some tids
 TidsAre bs (BatchComplete k a st) = Unit {0}
 TidsAre bs (BatchDone k vs) = Unit {0}
 TidsAre bs (ActPrepare t a st) = Unit {0}
@@ -75,10 +75,10 @@ unfoldable pub InfoTids : {C : Type 0} → Machine C → Type 0
 InfoTids s = (l : ℕ) → AllByRecursion (TidsAre s.desk.batches) (log_at s l).records
 
 -- the tids of a batch that is known stay
-tids_stay : {C : Type 0} (w : Fixed C) (e : Event) (s : Machine C) (k : ℕ) (ts : List ℕ) → option_map batch_tids (batch_of k s.desk.batches) ≡ Some ts → option_map batch_tids (batch_of k (after w e s).desk.batches) ≡ Some ts
+tids_stay : {C : Type 0} (w : Fixed C) (e : Event) (s : Machine C) (k : ℕ) (ts : List ℕ) → option_map batch_pact_tids (batch_of k s.desk.batches) ≡ Some ts → option_map batch_pact_tids (batch_of k (after w e s).desk.batches) ≡ Some ts
 unfolding after
-tids_stay w (Form j) s k ts h = found_more batch_tids k (desk.new_batch j (ring.next_actors w.text s.ring) (ring.next_pacts w.text s.ring)) s.desk.batches ts h
-tids_stay w e s k ts h = found_alike batch_tids k s.desk.batches (after w e s).desk.batches (frame w e s Bids refl) (frame w e s BatchTids refl) ∙ h
+tids_stay w (Form j) s k ts h = found_more batch_pact_tids k (desk.new_batch j (ring.next_actors w.text s.ring) (ring.next_pacts w.text s.ring)) s.desk.batches ts h
+tids_stay w e s k ts h = found_alike batch_pact_tids k s.desk.batches (after w e s).desk.batches (frame w e s Bids refl) (frame w e s BatchTids refl) ∙ h
 
 infos_stay : {C : Type 0} (w : Fixed C) (e : Event) (s : Machine C) (rs : List LogRecord) → AllByRecursion (TidsAre s.desk.batches) rs → AllByRecursion (TidsAre (after w e s).desk.batches) rs
 infos_stay w e s rs h = weaker (TidsAre s.desk.batches) (TidsAre (after w e s).desk.batches) rs one h
@@ -100,7 +100,7 @@ no_info bs c (Some x) = by (is_value x.result)
 
 pub tids_kept : {C : Type 0} (w : Fixed C) (e : Event) (s : Machine C) → IsAllowed w e s → epochs.Agreeing s → InfoTids s → InfoTids (after w e s)
 unfolding InfoTids conditions after
-tids_kept w (Form k) s ok ag g = each_added (λ l. TidsAre (after w (Form k) s).desk.batches) _ s.logs (k % w.text.logs) (ap (option_map batch_tids) own.1, tt) (λ l. infos_stay w (Form k) s _ (g l))
+tids_kept w (Form k) s ok ag g = each_added (λ l. TidsAre (after w (Form k) s).desk.batches) _ s.logs (k % w.text.logs) (ap (option_map batch_pact_tids) own.1, tt) (λ l. infos_stay w (Form k) s _ (g l))
   where
     own : (batch_of k s.desk.batches ≡ None) × (batch_of k (s.desk.batches ++ desk.new_batch k (ring.next_actors w.text s.ring) (ring.next_pacts w.text s.ring) ∷ []) ≡ Some (desk.new_batch k (ring.next_actors w.text s.ring) (ring.next_pacts w.text s.ring)))
     own = new_batch k (desk.new_batch k (ring.next_actors w.text s.ring) (ring.next_pacts w.text s.ring)) s.desk.batches refl (subst (λ z. AllByRecursion (λ j. j < z) (map (λ b. b.bid) s.desk.batches)) (sym (eqb-true k s.ring.next_bid ok.0)) (epochs.bids_below s ag))

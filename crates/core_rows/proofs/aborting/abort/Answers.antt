@@ -6,7 +6,7 @@ use Rattle.protocol.specs.Effects.{after}
 use Rattle.protocol.specs.OnRing.{cut}
 use Rattle.protocol.specs.OnDesk.{batches_aborted}
 use Rattle.protocol.specs.Words.{batch_of}
-use Rattle.batch_table.specs.Askings.{is_next, has_failed_pact, failed_in}
+use Rattle.batch_table.specs.Askings.{is_next_open, has_failed_pact, failed_in}
 use Rattle.book_part.specs.Halves.{Shows}
 use Rattle.core_rows.proofs.Rules.{allowed_where}
 use Rattle.core_rows.proofs.Failing.{failed_is, cascaded_halves}
@@ -44,7 +44,7 @@ pub abort_from-requires-clause-next : goal.abort_from-requires-clause-next
 unfolding conditions
 abort_from-requires-clause-next g c =
     let ok = allowed_where c.requires.text (Abort c.args.k.0) c.requires.state (c.abort_refusal-rule.ensures c.requires.text c.requires.state c.requires.run c.requires.shows.3 ∙ c.if-rule-ne0.false) in
-    subst (λ d. IsTrue (is_next c.args.k.0 d.batches)) c.requires.shows.3 ok.0
+    subst (λ d. IsTrue (is_next_open c.args.k.0 d.batches)) c.requires.shows.3 ok.0
 
 pub returns-clause-ok : goal.returns-clause-ok
 unfolding after

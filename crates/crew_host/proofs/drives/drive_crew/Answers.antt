@@ -1,11 +1,12 @@
 use Rattle.std.proofs.Common.{◌≡◌, false, List, [], Some, map, refl, sym, ap, subst, ◌∙◌}
 use Rattle.core_events.specs.Meant.{event_meant}
-use Rattle.crew_ends.specs.Ends.{AreDriven, AreDue}
+use Rattle.crew_ends.specs.Ends.{AreDue}
 use Rattle.crew_host.proofs.Beginning.{are_open, nothing_driven, nothing_printed}
 use Rattle.crew_parts.specs.Crews.{HasCome, OutputIs, kept}
 use Rattle.crew_parts.specs.Shares.{OutputState, output_seen}
-use Rattle.gate_log.specs.State.{LogState}
+use Rattle.gate_log.specs.State.{LogState, is_log_shut}
 use Rattle.protocol.specs.Events.{Event}
+use Rattle.run_effects.specs.Driven.{AreDriven}
 use Rattle.snap_hand.specs.Tables.{fixed_of}
 use Rattle.snap_hand.specs.declared.tables.Tables.{Tables}
 use Rattle.crew_host.proofs.drives.drive_crew.Goals as goal
@@ -20,7 +21,7 @@ returns-in-Ok-clause-logs g c =
     let same = c.run_or_stay-ending.ensures.tables ∙ c.in-Ok.ensures.tables.0 in
     let come : HasCome m begun.shares.items es ending.shares.items =
     subst (λ (t : Tables). HasCome (fixed_of t) begun.shares.items es ending.shares.items) c.in-Ok.ensures.tables.0 c.run_or_stay-ending.ensures.come in
-    subst (λ (ds : List Event). AreDriven m ds c.args.logs.items end.logs.items) (sym c.ended.ensures.kept)
+    subst (λ (ds : List Event). AreDriven m ds (is_log_shut end.logs.items) c.args.logs.items end.logs.items) (sym c.ended.ensures.kept)
     (c.crews_drive.ensures.journals m begun.shares.items ending.shares.items es c.args.logs.items end.logs.items _ _ c.in-Ok.ensures.begins come c.in-Ok.ensures.beside c.ended.ensures.beside
     c.requires.logs (c.ended.ensures.many ∙ ap (λ (t : Tables). t.work.logs) same))
 
@@ -58,8 +59,8 @@ returns-in-Err-clause-logs g c =
     let logs = c.args.logs.items in
     let same : c.not_begun.result.logs.items ≡ logs = c.not_begun.ensures.logs ∙ ap (λ v. v.items) c.in-Err.ensures.back.1.0 in
     let none : map event_meant c.not_begun.result.kept.items ≡ [] = ap (λ es. map event_meant es) c.not_begun.ensures.kept in
-    subst (λ (es : List Event). AreDriven m es logs c.not_begun.result.logs.items) (sym none)
-    (subst (λ (new : List LogState). AreDriven m [] logs new) (sym same) (nothing_driven c.appends_drive.ensures.nothing m logs (are_open logs c.requires.open)))
+    subst (λ (es : List Event). AreDriven m es (is_log_shut c.not_begun.result.logs.items) logs c.not_begun.result.logs.items) (sym none)
+    (subst (λ (new : List LogState). AreDriven m [] (is_log_shut new) logs new) (sym same) (nothing_driven c.appends_drive.ensures.nothing m logs (are_open logs c.requires.open)))
 
 pub returns-in-Err-clause-printed : goal.returns-in-Err-clause-printed
 returns-in-Err-clause-printed g c =

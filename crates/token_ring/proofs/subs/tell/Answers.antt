@@ -3,7 +3,7 @@ use Rattle.std.proofs.lemmas.Bool.{eqb-true, eqb-false}
 use Rattle.std.proofs.lemmas.List.{get_or_default}
 use Rattle.std.proofs.lemmas.Result.{on_ok_weaker}
 use Rattle.protocol.specs.Meant.{sub_batch, subs_actor}
-use Rattle.token_ring.specs.Told.{leading, first_sub, with_tid}
+use Rattle.token_ring.specs.Told.{leading, sub_of_first_pact, with_tid}
 use Rattle.token_ring.proofs.Places.{told_in_place, told_inserted, ascends_after}
 use Rattle.token_ring.proofs.subs.tell.Goals as goal
 use Rattle.token_ring.proofs.subs.tell.Goals.{else-at-len-via-then-at-len+else-eq, else-at-len-via-else-at-len}
@@ -14,7 +14,7 @@ returns-then-eq-clause-told c =
     let at = c.place_of-at.result in
     let d = c.index.result.now in
     let low : at < length xs = omega (arith, c.args.subs.now.ok.0) in
-    let own = first_sub c.args.heading.now.bid.0 c.args.heading.now.epoch c.args.heading.now.lasts.now c.args.actor.0 c.args.tid.0 in
+    let own = sub_of_first_pact c.args.heading.now.bid.0 c.args.heading.now.epoch c.args.heading.now.lasts.now c.args.actor.0 c.args.tid.0 in
     let place : at ≡ leading c.args.actor.0 (map subs_actor xs) = c.place_of-at.ensures.leading ∙ ap (λ ys. leading c.args.actor.0 (map subs_actor ys)) c.as_slice.ensures.value in
     let same : (get_or xs at d).actor.0 ≡ c.args.actor.0 = ap (λ s. s.actor.0) (sym c.index.ensures) ∙ eqb-true d.actor.0 c.args.actor.0 (sym c.eq.ensures ∙ c.if-eq.true) in
     let old : c.index_mut-sub.result.now ≡ get_or xs at d = c.index_mut-sub.ensures.value ∙ get_or_default xs at c.index_mut-sub.result.now d low in
@@ -25,7 +25,7 @@ returns-then-eq-clause-told c =
 pub returns-then-eq-clause-ascend : goal.returns-then-eq-clause-ascend
 returns-then-eq-clause-ascend c =
     on_ok_weaker c.add_tid.result
-    (ascends_after c.args.tid.0 (first_sub c.args.heading.now.bid.0 c.args.heading.now.epoch c.args.heading.now.lasts.now c.args.actor.0 c.args.tid.0)
+    (ascends_after c.args.tid.0 (sub_of_first_pact c.args.heading.now.bid.0 c.args.heading.now.epoch c.args.heading.now.lasts.now c.args.actor.0 c.args.tid.0)
     (map sub_batch c.args.subs.now.items) (map sub_batch (set c.args.subs.now.items c.place_of-at.result c.add_tid.new.sub)) c.requires.ascend)
     (returns-then-eq-clause-told c)
 
@@ -34,7 +34,7 @@ returns-clause-told c =
     let xs = c.args.subs.now.items in
     let at = c.place_of-at.result in
     let s = c.in_ok-sub.sub in
-    let own = first_sub c.args.heading.now.bid.0 c.args.heading.now.epoch c.args.heading.now.lasts.now c.args.actor.0 c.args.tid.0 in
+    let own = sub_of_first_pact c.args.heading.now.bid.0 c.args.heading.now.epoch c.args.heading.now.lasts.now c.args.actor.0 c.args.tid.0 in
     let place : at ≡ leading c.args.actor.0 (map subs_actor xs) = c.place_of-at.ensures.leading ∙ ap (λ ys. leading c.args.actor.0 (map subs_actor ys)) c.as_slice.ensures.value in
     let other : at < length xs → (get_or xs at s).actor.0 ≡ c.args.actor.0 → ⊥ =
     elim c.else-at-len.branch [
@@ -48,5 +48,5 @@ returns-clause-told c =
 
 pub returns-clause-ascend : goal.returns-clause-ascend
 returns-clause-ascend c =
-    ascends_after c.args.tid.0 (first_sub c.args.heading.now.bid.0 c.args.heading.now.epoch c.args.heading.now.lasts.now c.args.actor.0 c.args.tid.0)
+    ascends_after c.args.tid.0 (sub_of_first_pact c.args.heading.now.bid.0 c.args.heading.now.epoch c.args.heading.now.lasts.now c.args.actor.0 c.args.tid.0)
     (map sub_batch c.args.subs.now.items) (map sub_batch c.insert.new.self.items) c.requires.ascend (returns-clause-told c)

@@ -2,7 +2,7 @@ use Rattle.std.proofs.Common.{◌≡◌, ◌++◌, ◌-◌, true, List, length, 
 use Rattle.protocol.specs.Parts.{Batch, Desk}
 use Rattle.protocol.specs.Words.{count, is_live_batch}
 use Rattle.protocol.specs.OnDesk.{batches_aborted}
-use Rattle.batch_table.specs.Askings.{is_next}
+use Rattle.batch_table.specs.Askings.{is_next_open}
 use Rattle.batch_table.specs.Places.{gone}
 use Rattle.batch_table.proofs.FrontOver.{next_is_front}
 use Rattle.batch_table.proofs.LiveCount.{live_split}
@@ -12,7 +12,7 @@ use Rattle.batch_table.proofs.desk.Desk.abort_from.Goals as goal
 pub abort_from-requires-clause-within : goal.abort_from-requires-clause-within
 abort_from-requires-clause-within c =
     let i = c.self.inside in
-    let may : is_next c.args.bid.0 i.batches.items ≡ true = subst (λ (d : Desk). is_next c.args.bid.0 d.batches ≡ true) (sym c.self.view_is) c.requires.next in
+    let may : is_next_open c.args.bid.0 i.batches.items ≡ true = subst (λ (d : Desk). is_next_open c.args.bid.0 d.batches ≡ true) (sym c.self.view_is) c.requires.next in
     let at = next_is_front c.args.bid.0 i.base i.front i.batches.items c.self.invariant.numbered c.self.invariant.parted may in
     omega (arith, at.1, ap length c.as_mut_slice.ensures.value)
 
@@ -32,7 +32,7 @@ invariant_of-self c =
     let same = c.as_mut_slice.ensures.value in
     let ws = c.abort_from.new.batches in
     let long : length ws ≡ length i.batches.items = omega (arith, c.abort_from.auto.batches, ap length same) in
-    let may : is_next c.args.bid.0 i.batches.items ≡ true = subst (λ (d : Desk). is_next c.args.bid.0 d.batches ≡ true) (sym c.self.view_is) c.requires.next in
+    let may : is_next_open c.args.bid.0 i.batches.items ≡ true = subst (λ (d : Desk). is_next_open c.args.bid.0 d.batches ≡ true) (sym c.self.view_is) c.requires.next in
     sound_in i.batches ws i.base i.settled i.replied i.spots.items (i.live - c.abort_from.result) c.len-self-inside.result long
     (aborted_sound c.args.bid.0 i.base i.batches.items ws i.settled i.replied i.spots.items i.live (i.live - c.abort_from.result) i.front c.len-self-inside.result c.self.invariant may
     (c.abort_from.ensures.aborted ∙ ap (λ (bs : List Batch). take i.front bs ++ map gone (drop i.front bs)) same)
@@ -45,7 +45,7 @@ returns c =
     let same = c.as_mut_slice.ensures.value in
     let ws = c.abort_from.new.batches in
     let long : length ws ≡ length i.batches.items = omega (arith, c.abort_from.auto.batches, ap length same) in
-    let may : is_next c.args.bid.0 i.batches.items ≡ true = subst (λ (d : Desk). is_next c.args.bid.0 d.batches ≡ true) (sym c.self.view_is) c.requires.next in
+    let may : is_next_open c.args.bid.0 i.batches.items ≡ true = subst (λ (d : Desk). is_next_open c.args.bid.0 d.batches ≡ true) (sym c.self.view_is) c.requires.next in
     ap (λ (bs : List Batch). record { batches = bs; settled = i.settled; replied = i.replied })
     (same_items i.batches ws long
     ∙ taken_from_front c.args.bid.0 i.base i.front i.batches.items ws c.self.invariant.numbered c.self.invariant.parted may

@@ -3,7 +3,7 @@ use Rattle.std.specs.Prelude.{filter}
 use Rattle.protocol.specs.Parts.{Act}
 use Rattle.protocol.specs.Words.{count, is_live_act}
 use Rattle.order_book.specs.Kept.{Kept, is_live_kept, tid_kept}
-use Rattle.order_book.specs.Registered.{act_tids}
+use Rattle.order_book.specs.Registered.{tids_of_acts}
 use Rattle.order_book.proofs.Living.{live_count_seen, live_tids_seen}
 use Rattle.order_book.proofs.acts.Acts.going.Goals as goal
 
@@ -17,4 +17,4 @@ returns c =
     c.in_ok-tids.ensures
     ∙ ap (λ (xs : List Kept). map tid_kept (filter is_live_kept xs)) c.as_slice-rows.ensures.value
     ∙ sym (live_tids_seen c.self.inside.epoch c.self.inside.rows.items)
-    ∙ ap (λ (xs : List Act). act_tids (filter is_live_act xs)) c.self.view_is
+    ∙ ap (λ (xs : List Act). tids_of_acts (filter is_live_act xs)) c.self.view_is
