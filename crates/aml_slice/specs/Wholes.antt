@@ -75,14 +75,14 @@ IsRestKept p count c s t (Ended r) = EndsRest p count c s t r
 -- ---- slices, one after the other
 
 -- a slice that handed on: the state that it found, the one that it left, and what it handed on
-pub record Cut : Type 0 where
+pub record HandedOn : Type 0 where
   pub found : State
   pub left : State
   pub rest : Rest
 
 -- The control runs in these slices and one last, each on the state that is found at its actor, where
 -- nobody else changes the world in between; so it ends, and leaves this world.
-abbrev pub RunsInSlices : List CheckedMethod → ℕ → Rest → List State → List Cut → TxResult → List State → Type 0
+abbrev pub RunsInSlices : List CheckedMethod → ℕ → Rest → List State → List HandedOn → TxResult → List State → Type 0
 RunsInSlices p count c w [] r after =
     (s t : State) × (state_at w c.top.actor ≡ s) × EndsRest p count c s t r × (after ≡ slice_set w c.top.actor t)
 RunsInSlices p count c w (cut ∷ cuts) r after =

@@ -15,7 +15,7 @@ ghost use Rattle.aml_slice.specs.Controls.{Rest, IsRest};
 ghost use Rattle.aml_slice.specs.Readers.{AllReading, HandsOnReading};
 ghost use Rattle.snap_base.specs.declared.next.Next.{Next};
 ghost use Rattle.aml_slice.specs.Slicing.{slice_end, started};
-ghost use Rattle.aml_slice.specs.Wholes.{BeginsTransaction, Cut, IsRestKept, RunsInSlices, world_after};
+ghost use Rattle.aml_slice.specs.Wholes.{BeginsTransaction, HandedOn, IsRestKept, RunsInSlices, world_after};
 ghost use Rattle.aml_slice.specs.Moments.{IsHandedOn, IsMoment, IsSameEnd, IsSameState};
 ghost use Rattle.aml_slice.specs.Finishing.{after_slice, finished};
 
@@ -49,7 +49,7 @@ pub fn one_moment(_program: &Checked)
 /// However a transaction is cut into slices, it gives what it gives alone on the states that were found,
 /// where nobody else changes these in between.
 pub fn slices_add_up(_program: &Checked)
-    ensures { (count : ℕ) (tid : Tid) (tx : Tx) (c : Rest) (w : List State) (cuts : List Cut) (r : TxResult) (after : List State) → BeginsTransaction (methods_of _program.now) tid tx c → tx.actor.0 < count → length w ≡ count → RunsInSlices (methods_of _program.now) count c w cuts r after → alone (methods_of _program.now) w tx ≡ record { result = r; world = world_after r w after } }
+    ensures { (count : ℕ) (tid : Tid) (tx : Tx) (c : Rest) (w : List State) (cuts : List HandedOn) (r : TxResult) (after : List State) → BeginsTransaction (methods_of _program.now) tid tx c → tx.actor.0 < count → length w ≡ count → RunsInSlices (methods_of _program.now) count c w cuts r after → alone (methods_of _program.now) w tx ≡ record { result = r; world = world_after r w after } }
 {}
 
 /// Where nobody else changes the world, a slice keeps what becomes of its control, and what becomes of a control

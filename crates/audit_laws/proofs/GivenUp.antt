@@ -14,7 +14,7 @@ use Rattle.protocol_laws.specs.Highs.{doomed_at}
 use Rattle.protocol_theorems.specs.Sets.{least_in}
 use Rattle.audit_words.specs.Happenings.{cross_out, crossing}
 use Rattle.audit_words.specs.Seen as sets
-use Rattle.audit_words.specs.Seen.{Begun, Doom, Seen, doom_of, has_place, is_given_up, is_live, least}
+use Rattle.audit_words.specs.Seen.{Begun, Doom, Seen, first_doom, has_its_place, was_given_up, is_live, least}
 use Rattle.audit_laws.proofs.RunsSeen.{any_join}
 
 -- ---- lists
@@ -35,30 +35,30 @@ act_among u (x ∷ xs) = by (x.tid == u) (act_among u xs)
     by true r = refl
     by false r = r
 
-pub given_join : (u : ℕ) (d e : List Doom) → is_given_up (d ++ e) u ≡ (is_given_up d u || is_given_up e u)
+pub given_join : (u : ℕ) (d e : List Doom) → was_given_up (d ++ e) u ≡ (was_given_up d u || was_given_up e u)
 given_join u d e =
     some_any (λ (x : Doom). x.tid == u) (d ++ e)
     ∙ (any_join (λ (x : Doom). x.tid == u) d e
-    ∙ sym (ap (λ (b : Bool). b || is_given_up e u) (some_any (λ (x : Doom). x.tid == u) d) ∙ ap (λ (b : Bool). list_any (λ (x : Doom). x.tid == u) d || b) (some_any (λ (x : Doom). x.tid == u) e)))
+    ∙ sym (ap (λ (b : Bool). b || was_given_up e u) (some_any (λ (x : Doom). x.tid == u) d) ∙ ap (λ (b : Bool). list_any (λ (x : Doom). x.tid == u) d || b) (some_any (λ (x : Doom). x.tid == u) e)))
 
-pub given_made : (u : ℕ) (g : Begun → Doom) (p : ℕ → Bool) (xs : List Begun) → ((x : Begun) → (g x).tid ≡ x.tid) → is_given_up (map g (filter (λ x. p x.tid) xs)) u ≡ (is_among u (map (λ x. x.tid) xs) && p u)
+pub given_made : (u : ℕ) (g : Begun → Doom) (p : ℕ → Bool) (xs : List Begun) → ((x : Begun) → (g x).tid ≡ x.tid) → was_given_up (map g (filter (λ x. p x.tid) xs)) u ≡ (is_among u (map (λ x. x.tid) xs) && p u)
 given_made u g p [] i = refl
 given_made u g p (x ∷ xs) i = by (p x.tid) refl (given_made u g p xs i)
   where
-    one : (c : Bool) → (c ≡ true → p u ≡ true) → is_given_up (map g (filter (λ y. p y.tid) xs)) u ≡ (is_among u (map (λ y. y.tid) xs) && p u)
-        → is_some (if c then Some (g x) else doom_of u (map g (filter (λ y. p y.tid) xs))) ≡ ((c || is_among u (map (λ y. y.tid) xs)) && p u)
+    one : (c : Bool) → (c ≡ true → p u ≡ true) → was_given_up (map g (filter (λ y. p y.tid) xs)) u ≡ (is_among u (map (λ y. y.tid) xs) && p u)
+        → is_some (if c then Some (g x) else first_doom u (map g (filter (λ y. p y.tid) xs))) ≡ ((c || is_among u (map (λ y. y.tid) xs)) && p u)
     one true k r = sym (k refl)
     one false k r = r
 
-    two : (c : Bool) → (c ≡ true → p u ≡ false) → is_given_up (map g (filter (λ y. p y.tid) xs)) u ≡ (is_among u (map (λ y. y.tid) xs) && p u)
-        → is_given_up (map g (filter (λ y. p y.tid) xs)) u ≡ ((c || is_among u (map (λ y. y.tid) xs)) && p u)
+    two : (c : Bool) → (c ≡ true → p u ≡ false) → was_given_up (map g (filter (λ y. p y.tid) xs)) u ≡ (is_among u (map (λ y. y.tid) xs) && p u)
+        → was_given_up (map g (filter (λ y. p y.tid) xs)) u ≡ ((c || is_among u (map (λ y. y.tid) xs)) && p u)
     two true k r = r ∙ (ap (λ (b : Bool). is_among u (map (λ (y : Begun). y.tid) xs) && b) (k refl) ∙ (and_false (is_among u (map (λ (y : Begun). y.tid) xs)) ∙ sym (k refl)))
     two false k r = r
 
-    by : (b : Bool) → p x.tid ≡ b → is_given_up (map g (filter (λ y. p y.tid) xs)) u ≡ (is_among u (map (λ y. y.tid) xs) && p u)
-        → is_given_up (map g (if b then x ∷ filter (λ y. p y.tid) xs else filter (λ y. p y.tid) xs)) u ≡ (((x.tid == u) || is_among u (map (λ y. y.tid) xs)) && p u)
+    by : (b : Bool) → p x.tid ≡ b → was_given_up (map g (filter (λ y. p y.tid) xs)) u ≡ (is_among u (map (λ y. y.tid) xs) && p u)
+        → was_given_up (map g (if b then x ∷ filter (λ y. p y.tid) xs else filter (λ y. p y.tid) xs)) u ≡ (((x.tid == u) || is_among u (map (λ y. y.tid) xs)) && p u)
     by true e r =
-        subst (λ (z : ℕ). is_some (if z == u then Some (g x) else doom_of u (map g (filter (λ y. p y.tid) xs))) ≡ (((x.tid == u) || is_among u (map (λ y. y.tid) xs)) && p u)) (sym (i x))
+        subst (λ (z : ℕ). is_some (if z == u then Some (g x) else first_doom u (map g (filter (λ y. p y.tid) xs))) ≡ (((x.tid == u) || is_among u (map (λ y. y.tid) xs)) && p u)) (sym (i x))
         (one (x.tid == u) (λ q. ap p (sym (eqb-true x.tid u q)) ∙ e) r)
     by false e r = two (x.tid == u) (λ q. ap p (sym (eqb-true x.tid u q)) ∙ e) r
 
@@ -88,11 +88,11 @@ live_is (Decided c) = refl
 live_is (Sealed c) = refl
 
 -- the sets cross where the numbers do, which of a live one are their ends
-pub seen_crossing : (t : Seen) (u : ℕ) (x : Act) → is_given_up t.dooms u ≡ is_doomed x.status → has_place (OfAct u) t.members ≡ is_ordered x.status → (is_live_status x.status ≡ true → (x.m ≡ greatest (t.before u)) × (x.n ≡ least (t.behind u))) → sets.is_crossed t u ≡ numbers.is_crossed x
+pub seen_crossing : (t : Seen) (u : ℕ) (x : Act) → was_given_up t.dooms u ≡ is_doomed x.status → has_its_place (OfAct u) t.members ≡ is_ordered x.status → (is_live_status x.status ≡ true → (x.m ≡ greatest (t.before u)) × (x.n ≡ least (t.behind u))) → sets.was_crossed t u ≡ numbers.is_crossed x
 seen_crossing t u x d o k = by (is_live_status x.status) refl
   where
     alive : is_live t u ≡ is_live_status x.status
-    alive = ap (λ (b : Bool). not b && not (has_place (OfAct u) t.members)) d ∙ (ap (λ (b : Bool). not (is_doomed x.status) && not b) o ∙ live_is x.status)
+    alive = ap (λ (b : Bool). not b && not (has_its_place (OfAct u) t.members)) d ∙ (ap (λ (b : Bool). not (is_doomed x.status) && not b) o ∙ live_is x.status)
 
     by : (b : Bool) → is_live_status x.status ≡ b → (is_live t u && reaches (greatest (t.before u)) (least (t.behind u))) ≡ (is_live_status x.status && reaches x.m x.n)
     by true e =
@@ -104,18 +104,18 @@ seen_crossing t u x d o k = by (is_live_status x.status) refl
 
 -- ---- behind an event that places somebody
 
-pub crossed_told : (a u : ℕ) (t : Seen) (xs : List Act) → map (λ x. x.tid) t.acts ≡ map (λ x. x.tid) xs → is_given_up t.dooms u ≡ doomed_at xs u → ((x : Act) → act_of u xs ≡ Some x → sets.is_crossed t u ≡ numbers.is_crossed x)
-    → is_given_up (cross_out a t).dooms u ≡ doomed_at (map (crossed_out a) xs) u
+pub crossed_told : (a u : ℕ) (t : Seen) (xs : List Act) → map (λ x. x.tid) t.acts ≡ map (λ x. x.tid) xs → was_given_up t.dooms u ≡ doomed_at xs u → ((x : Act) → act_of u xs ≡ Some x → sets.was_crossed t u ≡ numbers.is_crossed x)
+    → was_given_up (cross_out a t).dooms u ≡ doomed_at (map (crossed_out a) xs) u
 crossed_told a u t xs tids d k =
-    given_join u t.dooms (map (crossing a t) (filter (λ x. sets.is_crossed t x.tid) t.acts))
-    ∙ (ap (λ (b : Bool). b || is_given_up (map (crossing a t) (filter (λ x. sets.is_crossed t x.tid) t.acts)) u) d
+    given_join u t.dooms (map (crossing a t) (filter (λ x. sets.was_crossed t x.tid) t.acts))
+    ∙ (ap (λ (b : Bool). b || was_given_up (map (crossing a t) (filter (λ x. sets.was_crossed t x.tid) t.acts)) u) d
     ∙ (ap (λ (b : Bool). doomed_at xs u || b) rest ∙ sym (doomed_crossed a u xs)))
   where
-    by : (o : Option Act) → act_of u xs ≡ o → (is_some o && sets.is_crossed t u) ≡ holds numbers.is_crossed o
+    by : (o : Option Act) → act_of u xs ≡ o → (is_some o && sets.was_crossed t u) ≡ holds numbers.is_crossed o
     by None e = refl
     by (Some x) e = k x e
 
-    rest : is_given_up (map (crossing a t) (filter (λ x. sets.is_crossed t x.tid) t.acts)) u ≡ holds numbers.is_crossed (act_of u xs)
+    rest : was_given_up (map (crossing a t) (filter (λ x. sets.was_crossed t x.tid) t.acts)) u ≡ holds numbers.is_crossed (act_of u xs)
     rest =
-        given_made u (crossing a t) (sets.is_crossed t) t.acts (λ x. refl)
-        ∙ (ap (λ (ns : List ℕ). is_among u ns && sets.is_crossed t u) tids ∙ (ap (λ (b : Bool). b && sets.is_crossed t u) (act_among u xs) ∙ by (act_of u xs) refl))
+        given_made u (crossing a t) (sets.was_crossed t) t.acts (λ x. refl)
+        ∙ (ap (λ (ns : List ℕ). is_among u ns && sets.was_crossed t u) tids ∙ (ap (λ (b : Bool). b && sets.was_crossed t u) (act_among u xs) ∙ by (act_of u xs) refl))

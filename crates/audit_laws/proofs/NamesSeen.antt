@@ -20,7 +20,7 @@ use Rattle.protocol.specs.Parts.{Batch, Cascade, Machine, Stage, Committing, Set
 use Rattle.protocol.specs.Runs.{opening, reached, state_after, EachAllowed, IsRun}
 use Rattle.protocol.specs.Words.{is_among, holds, batch_of, is_settled, is_formed, is_committing, is_open, least_older}
 use Rattle.protocol_theorems.specs.Sizes.{AllFindRoom, FindsRoom}
-use Rattle.audit_words.specs.Seen.{Begun, Cut, Seen, batch_in, is_batch, is_cut_off, nothing_seen}
+use Rattle.audit_words.specs.Seen.{Begun, Cut, Seen, batch_in, was_formed, was_taken_along, nothing_seen}
 use Rattle.audit_words.specs.Happenings.{added, asks, comes, give_up, happened, may_abort, may_ask, met, ring_after, seen_from, taken_by, with_cut}
 use Rattle.run_effects.specs.Laws.{BatchesAreCounted, settles}
 use Rattle.audit_laws.specs.Names.{NamesAreSeen, TellsNames}
@@ -49,7 +49,7 @@ unfolding added
 batches_stay r w (Form k) t h = absurd (true≢false h)
 batches_stay r w (Arrive k a) t h = either (λ x. x.batches) (comes k a t) _ t refl
 batches_stay r w (Ask u a) t h = either (λ x. x.batches) (may_ask w u a t) _ t (asked (λ x. x.batches) u a (least_older u (met u a t)) t (λ older. refl) refl)
-batches_stay r w (Settle k) t h = either (λ x. x.batches) (is_batch k t && not (is_among k t.settled)) _ t refl
+batches_stay r w (Settle k) t h = either (λ x. x.batches) (was_formed k t && not (is_among k t.settled)) _ t refl
 batches_stay r w (Abort k) t h = either (λ x. x.batches) (may_abort k t) _ t refl
 batches_stay r w (Finish u a) t h = either (λ x. x.batches) _ _ t refl
 batches_stay r w e t h = refl
@@ -63,7 +63,7 @@ unfolding added
 acts_stay r w (Admit u) t h = absurd (true≢false h)
 acts_stay r w (Arrive k a) t h = either (λ x. x.acts) (comes k a t) _ t refl
 acts_stay r w (Ask u a) t h = either (λ x. x.acts) (may_ask w u a t) _ t (asked (λ x. x.acts) u a (least_older u (met u a t)) t (λ older. refl) refl)
-acts_stay r w (Settle k) t h = either (λ x. x.acts) (is_batch k t && not (is_among k t.settled)) _ t refl
+acts_stay r w (Settle k) t h = either (λ x. x.acts) (was_formed k t && not (is_among k t.settled)) _ t refl
 acts_stay r w (Abort k) t h = either (λ x. x.acts) (may_abort k t) _ t refl
 acts_stay r w (Finish u a) t h = either (λ x. x.acts) _ _ t refl
 acts_stay r w e t h = refl
@@ -77,7 +77,7 @@ unfolding added
 cuts_stay r w (Abort k) t h = absurd (true≢false h)
 cuts_stay r w (Arrive k a) t h = either (λ x. x.cuts) (comes k a t) _ t refl
 cuts_stay r w (Ask u a) t h = either (λ x. x.cuts) (may_ask w u a t) _ t (asked (λ x. x.cuts) u a (least_older u (met u a t)) t (λ older. refl) refl)
-cuts_stay r w (Settle k) t h = either (λ x. x.cuts) (is_batch k t && not (is_among k t.settled)) _ t refl
+cuts_stay r w (Settle k) t h = either (λ x. x.cuts) (was_formed k t && not (is_among k t.settled)) _ t refl
 cuts_stay r w (Finish u a) t h = either (λ x. x.cuts) _ _ t refl
 cuts_stay r w e t h = refl
 
@@ -122,7 +122,7 @@ batch_there k (x ∷ xs) = by (x.bid == k) (batch_there k xs)
     by false e = e
 
 -- a batch of the desk is told
-told_batch : {C : Type 0} (w : Fixed C) (s : Machine C) (t : Seen) (k : ℕ) → TellsNames w s t → is_some (batch_of k s.desk.batches) ≡ true → is_batch k t ≡ true
+told_batch : {C : Type 0} (w : Fixed C) (s : Machine C) (t : Seen) (k : ℕ) → TellsNames w s t → is_some (batch_of k s.desk.batches) ≡ true → was_formed k t ≡ true
 told_batch w s t k h e = formed_there k t.batches ∙ (ap (is_among k) h.bids ∙ (sym (batch_there k s.desk.batches) ∙ e))
 
 some_there : (p : Batch → Bool) (o : Option Batch) → holds p o ≡ true → is_some o ≡ true
@@ -199,7 +199,7 @@ own_stage j st (b ∷ bs) h =
 
 -- ---- cascades
 
-not_cut : (k : ℕ) (cuts : List Cut) (cs : List Cascade) → map (λ c. c.first) cuts ≡ map (λ c. c.first) cs → map (λ c. c.upto) cuts ≡ map (λ c. c.upto) cs → AllByRecursion (λ c. c.upto < k) cs → is_cut_off k cuts ≡ false
+not_cut : (k : ℕ) (cuts : List Cut) (cs : List Cascade) → map (λ c. c.first) cuts ≡ map (λ c. c.first) cs → map (λ c. c.upto) cuts ≡ map (λ c. c.upto) cs → AllByRecursion (λ c. c.upto < k) cs → was_taken_along k cuts ≡ false
 not_cut k [] cs e f h = refl
 not_cut k (x ∷ cuts) [] e f h = absurd (cc e)
 not_cut k (x ∷ cuts) (c ∷ cs) e f h =
@@ -215,7 +215,7 @@ not_cut k (x ∷ cuts) (c ∷ cs) e f h =
         by true e = absurd (omega (arith, leb-true a b e, l))
         by false e = refl
 
-    by : (a b : Bool) → b ≡ false → is_cut_off k cuts ≡ false → ((a && b) || is_cut_off k cuts) ≡ false
+    by : (a b : Bool) → b ≡ false → was_taken_along k cuts ≡ false → ((a && b) || was_taken_along k cuts) ≡ false
     by a true e r = absurd (true≢false e)
     by true false e r = r
     by false false e r = r
@@ -279,7 +279,7 @@ module _ {C : Type 0} (w : Fixed C) (fr : Frames C) where
   pub aborts : (k : ℕ) (s : Machine C) (t : Seen) → FindsRoom w (Abort k) s → IsAllowed w (Abort k) s → TellsNames w s t → may_abort k t ≡ true
   unfolding conditions
   aborts k s t room ok h =
-      both (is_batch k t) (is_cut_off k t.cuts) (told_batch w s t k h (some_there _ (batch_of k s.desk.batches) ok.0)) (not_cut k t.cuts s.book.cascades h.firsts h.uptos room.0)
+      both (was_formed k t) (was_taken_along k t.cuts) (told_batch w s t k h (some_there _ (batch_of k s.desk.batches) ok.0)) (not_cut k t.cuts s.book.cascades h.firsts h.uptos room.0)
     where
       both : (a b : Bool) → a ≡ true → b ≡ false → (a && not b) ≡ true
       both true false e f = refl
@@ -306,10 +306,10 @@ module _ {C : Type 0} (w : Fixed C) (fr : Frames C) where
   uptos_kept e s t room ok h = ap (map (λ (c : Cut). c.upto)) (cuts_stay w.code.only_reads w.text e t refl) ∙ (h.uptos ∙ ap (map (λ (c : Cascade). c.upto)) (sym (fr w e s Cascades refl)))
 
   -- a Settle is told
-  settles_too : (j : ℕ) (s : Machine C) (t : Seen) → IsAllowed w (Settle j) s → TellsNames w s t → (is_batch j t && not (is_among j t.settled)) ≡ true
+  settles_too : (j : ℕ) (s : Machine C) (t : Seen) → IsAllowed w (Settle j) s → TellsNames w s t → (was_formed j t && not (is_among j t.settled)) ≡ true
   unfolding conditions
   settles_too j s t ok h =
-      both (is_batch j t) (is_among j t.settled) (told_batch w s t j h (some_there _ (batch_of j s.desk.batches) ok.0))
+      both (was_formed j t) (is_among j t.settled) (told_batch w s t j h (some_there _ (batch_of j s.desk.batches) ok.0))
       (h.settled j ∙ stage_is (λ b. is_committing b.stage && not b.aborted) (λ b. is_settled b.stage) (batch_of j s.desk.batches) (λ b p. committing b.stage (and_parts (is_committing b.stage) (not b.aborted) p).0) ok.0)
     where
       both : (a b : Bool) → a ≡ true → b ≡ false → (a && not b) ≡ true
@@ -340,7 +340,7 @@ module _ {C : Type 0} (w : Fixed C) (fr : Frames C) where
           (own_stage j Committing s.desk.batches (some_there _ (batch_of j s.desk.batches) ok.0) ∙ sym was)
       by false e = other_stage j k Committing s.desk.batches e
   settled_kept (Settle j) s t ok h k =
-      ap (is_among k) (chosen (λ x. x.settled) (is_batch j t && not (is_among j t.settled)) _ t (settles_too j s t ok h)) ∙ (among_join k t.settled (j ∷ []) ∙ by (j == k) refl)
+      ap (is_among k) (chosen (λ x. x.settled) (was_formed j t && not (is_among j t.settled)) _ t (settles_too j s t ok h)) ∙ (among_join k t.settled (j ∷ []) ∙ by (j == k) refl)
     where
       by : (c : Bool) → (j == k) ≡ c → (is_among k t.settled || (c || false)) ≡ holds (λ b. is_settled b.stage) (batch_of k (changed_batch j (with_stage Settled) s.desk.batches))
       by true e = or_true (is_among k t.settled) ∙ sym (subst (λ (n : ℕ). holds (λ b. is_settled b.stage) (batch_of n (changed_batch j (with_stage Settled) s.desk.batches)) ≡ true) (eqb-true j k e) (own_stage j Settled s.desk.batches (some_there _ (batch_of j s.desk.batches) ok.0)))
@@ -381,7 +381,7 @@ module _ {C : Type 0} (w : Fixed C) (fr : Frames C) where
 
   one_count : (e : Event) (s : Machine C) (t : Seen) → IsAllowed w e s → TellsNames w s t → length (happened w.code.only_reads w.text e t).settled ≡ length t.settled + settles (e ∷ [])
   unfolding added
-  one_count (Settle k) s t ok h = ap (λ (xs : List ℕ). length xs) (chosen (λ x. x.settled) (is_batch k t && not (is_among k t.settled)) _ t (settles_too k s t ok h)) ∙ longer t.settled
+  one_count (Settle k) s t ok h = ap (λ (xs : List ℕ). length xs) (chosen (λ x. x.settled) (was_formed k t && not (is_among k t.settled)) _ t (settles_too k s t ok h)) ∙ longer t.settled
     where
       longer : (xs : List ℕ) → length (xs ++ k ∷ []) ≡ length xs + 1
       longer [] = refl

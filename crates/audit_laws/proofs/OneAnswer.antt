@@ -10,7 +10,7 @@ use Rattle.audit_words.specs.Seen.{first_ring}
 use Rattle.audit_words.specs.Happenings.{ring_after, seen}
 use Rattle.audit_words.specs.Papers.{Line}
 use Rattle.audit_words.specs.Clauses.{Language, MayFollow, TellsPlace, TellsMeaning, TellsOrder, TellsEvidence}
-use Rattle.audit_words.specs.Audited.{on_ring, EachMeets, ring_behind, IsFirstNotMet, EachLine, IsFirstOff, HasShape, IsShapeOff, OrBehind, LinesOff, Audited, IsOff}
+use Rattle.audit_words.specs.Audited.{ring_conditions, EachMeets, ring_behind, IsFirstNotMet, EachLine, IsFirstOff, HasShape, IsShapeOff, OrBehind, LinesOff, Audited, IsOff}
 
 -- ---- a place among lines
 
@@ -65,10 +65,10 @@ shape_apart txs actors settled ls a h (inr g) = absurd (omega (arith, h.whole, g
 
 NotMetAt : Text → Ring → List Event → ℕ → Type 0
 NotMetAt w r [] n = ⊥
-NotMetAt w r (e ∷ es) zero = ¬ AllTrue (on_ring w e r)
-NotMetAt w r (e ∷ es) (suc n) = AllTrue (on_ring w e r) × NotMetAt w (ring_after w e r) es n
+NotMetAt w r (e ∷ es) zero = ¬ AllTrue (ring_conditions w e r)
+NotMetAt w r (e ∷ es) (suc n) = AllTrue (ring_conditions w e r) × NotMetAt w (ring_after w e r) es n
 
-not_met_at : (w : Text) (r : Ring) (f : List Event) (e : Event) (rest : List Event) → EachMeets w f r → (¬ AllTrue (on_ring w e (ring_behind w f r))) → NotMetAt w r (f ++ e ∷ rest) (length f)
+not_met_at : (w : Text) (r : Ring) (f : List Event) (e : Event) (rest : List Event) → EachMeets w f r → (¬ AllTrue (ring_conditions w e (ring_behind w f r))) → NotMetAt w r (f ++ e ∷ rest) (length f)
 unfolding NotMetAt
 not_met_at w r [] e rest h k = k
 not_met_at w r (x ∷ f) e rest h k = (h.0, not_met_at w (ring_after w x r) f e rest h.1 k)

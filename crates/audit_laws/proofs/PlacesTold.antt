@@ -12,7 +12,7 @@ use Rattle.protocol.specs.Parts.{Who, OfBatch, OfAct}
 use Rattle.protocol.specs.Words.{is_act_who, is_among, is_who}
 use Rattle.audit_words.specs.Audited.{EachLine}
 use Rattle.audit_words.specs.Beside.{BatchesRise, EachTold, TellsDone, TellsPlaced}
-use Rattle.audit_words.specs.Clauses.{HasPlace, IsNotBelow, TellsOrder}
+use Rattle.audit_words.specs.Clauses.{IsPlacedAt, IsNotBelow, TellsOrder}
 use Rattle.audit_words.specs.Orders.{seen_done, seen_history, seen_view}
 use Rattle.audit_words.specs.Papers.{Line, Reply, Actor, End, Kept, Recovered}
 use Rattle.audit_words.specs.Seen.{Member, Seen}
@@ -130,7 +130,7 @@ no_below ran m d (x ∷ ms) [] e k h = absurd k
 no_below ran m d (x ∷ ms) (y ∷ ds) e k h =
     (subst (λ (u : Who). IsNotBelow u x.who) (sym e) (subst (λ (u : Who). IsNotBelow d.who u) (sym (k.0).who) h.0), no_below ran m d ms ds e k.1 h.1)
 
-pub has_place : (ran : ℕ → List ℕ) (front : List Done) (d : Done) (rest : List Done) (ms : List Member) → EachTold ran ms (front ++ d ∷ rest) → BatchesRise (front ++ d ∷ rest) → HasPlace d.tx d.place ms
+pub has_place : (ran : ℕ → List ℕ) (front : List Done) (d : Done) (rest : List Done) (ms : List Member) → EachTold ran ms (front ++ d ∷ rest) → BatchesRise (front ++ d ∷ rest) → IsPlacedAt d.tx d.place ms
 has_place ran [] d rest [] k h = absurd k
 has_place ran [] d rest (m ∷ ms) k h = record { member = m; front = []; rest = ms; splits = refl; tx = (k.0).tx; place = (k.0).place; in_order = no_below ran m d ms rest (k.0).who k.1 h.0 }
 has_place ran (x ∷ front) d rest [] k h = absurd k

@@ -12,7 +12,7 @@ use Rattle.snap_base.specs.declared.verdicts.Verdict.{Verdict}
 use Rattle.snap_base.specs.declared.verdicts.Verdict.TheVariants as verdicts
 use Rattle.trace_text.specs.Reads.{LacksByte}
 use Rattle.trace_text.proofs.Cuts.{decimal_free, free_append, free_test, has_no}
-use Rattle.audit_words.specs.Papers.{Line, Reply, Actor, End, Kept, Recovered, IsForm, IsPlace, IsReport, IsVerdict, ended, line_text}
+use Rattle.audit_words.specs.Papers.{Line, Reply, Actor, End, Kept, Recovered, IsWellFormedLine, IsPlaceInRange, IsReport, IsVerdict, ended, line_text}
 use Rattle.audit_laws.proofs.ReportTexts.{texts}
 
 -- ---- none has a line feed
@@ -30,7 +30,7 @@ signed : (z : ℤ) → FitsSigned w64 z → LacksByte 10 (signed_decimal z)
 signed (pos n) h = number n (omega (arith, h))
 signed (negsuc n) h = (refl, number (suc n) (omega (arith, h)))
 
-place_free : (p : Place) → IsPlace p → LacksByte 10 (place_text p)
+place_free : (p : Place) → IsPlaceInRange p → LacksByte 10 (place_text p)
 place_free p h =
     join (decimal p.batch.0) _ (number p.batch.0 h.0) (join (codes ".") _ (word (codes ".") refl) (join (decimal p.side) _ (number p.side (omega (arith, h.1))) (join (codes ".") (decimal p.order) (word (codes ".") refl) (number p.order h.2))))
 
@@ -54,7 +54,7 @@ value_free : (v : Option ℤ) → IfSome v (FitsSigned w64) → LacksByte 10 (va
 value_free None h = word (codes "unknown") refl
 value_free (Some v) h = signed v h
 
-line_free : (l : Line) → IsForm l → LacksByte 10 (line_text l)
+line_free : (l : Line) → IsWellFormedLine l → LacksByte 10 (line_text l)
 line_free (Reply n v) h = join (codes "tx ") _ (word (codes "tx ") refl) (join (decimal n) _ (number n (omega (arith, h.0))) (join (codes " ") (verdict_text v) (word (codes " ") refl) (verdict_free v h.1)))
 line_free (Actor a fields) h = join (codes "actor ") _ (word (codes "actor ") refl) (join (decimal a) _ (number a (omega (arith, h.0))) (fields_free fields h.3))
 line_free (End x y z) h =
@@ -71,9 +71,9 @@ line_front [] ys h = refl
 line_front (b ∷ line) ys h =
     subst (λ (c : Bool). (if c then [] ∷ lines (ended line ++ ys) else onto_line b (lines (ended line ++ ys))) ≡ (b ∷ line) ∷ lines ys) (sym h.0) (ap (onto_line b) (line_front line ys h.1))
 
-lines_said : (ls : List Line) → AllByRecursion IsForm ls → lines (texts ls) ≡ map line_text ls
+lines_said : (ls : List Line) → AllByRecursion IsWellFormedLine ls → lines (texts ls) ≡ map line_text ls
 lines_said [] h = refl
 lines_said (l ∷ ls) h = line_front (line_text l) (texts ls) (line_free l h.0) ∙ ap (λ zs. line_text l ∷ zs) (lines_said ls h.1)
 
-pub read_back : (ls : List Line) → AllByRecursion IsForm ls → IsReport (texts ls) ls
+pub read_back : (ls : List Line) → AllByRecursion IsWellFormedLine ls → IsReport (texts ls) ls
 read_back ls h = record { forms = h; said = lines_said ls h }

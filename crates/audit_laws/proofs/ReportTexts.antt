@@ -14,7 +14,7 @@ use Rattle.protocol.specs.Runs.{reached}
 use Rattle.snap_report.specs.Lines.{actor_text, actors_text, end_text, line_end, reply_text, shown_fields}
 use Rattle.run_effects.specs.Lines.{answer_lines, report_text, verdict_line}
 use Rattle.audit_words.specs.Papers.{Line, Reply, Actor, End, ended, line_text}
-use Rattle.audit_words.specs.Reports.{actor_lines, line_by, reply_lines, report_lines}
+use Rattle.audit_words.specs.Reports.{actor_lines, reply_line_of, reply_lines, report_lines}
 
 abbrev pub texts : List Line → List ℕ
 texts ls = flat_map (λ l. ended (line_text l)) ls
@@ -39,14 +39,14 @@ ended_6 a b c d e f = append_assoc a (b ++ (c ++ (d ++ (e ++ f)))) line_end ∙ 
 one_reply : (n : ℕ) (v : Verdict) → reply_text n v ≡ ended (line_text (Reply n v))
 one_reply n v = sym (ended_4 (codes "tx ") (decimal n) (codes " ") (verdict_text v))
 
-one_answer : (n : ℕ) (o : Option Verdict) → verdict_line n o ≡ texts (line_by n o)
+one_answer : (n : ℕ) (o : Option Verdict) → verdict_line n o ≡ texts (reply_line_of n o)
 one_answer n None = refl
 one_answer n (Some v) = one_reply n v ∙ sym (append-nil (ended (line_text (Reply n v))))
 
 replies_same : (xs : List Answer) → answer_lines xs ≡ texts (reply_lines xs)
 replies_same [] = refl
 replies_same (x ∷ xs) =
-    ap (λ zs. zs ++ answer_lines xs) (one_answer x.tx x.verdict) ∙ (ap (λ zs. texts (line_by x.tx x.verdict) ++ zs) (replies_same xs) ∙ sym (texts_join (line_by x.tx x.verdict) (reply_lines xs)))
+    ap (λ zs. zs ++ answer_lines xs) (one_answer x.tx x.verdict) ∙ (ap (λ zs. texts (reply_line_of x.tx x.verdict) ++ zs) (replies_same xs) ∙ sym (texts_join (reply_line_of x.tx x.verdict) (reply_lines xs)))
 
 one_actor : (a : ℕ) (s : State) → actor_text a s ≡ ended (line_text (Actor a (shown_fields s.0)))
 one_actor a s = sym (ended_3 (codes "actor ") (decimal a) (flat_map (λ z. codes " " ++ signed_decimal z) (shown_fields s.0)))

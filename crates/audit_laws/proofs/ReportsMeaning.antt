@@ -27,7 +27,7 @@ use Rattle.protocol.specs.Verdicts.{verdict, ended_at}
 use Rattle.protocol_laws.specs.Linked.{PlacesDiffer}
 use Rattle.protocol_theorems.proofs.Lemmas.{all_sorted, rises_sorted}
 use Rattle.audit_words.specs.Papers.{Line, Reply, Actor, End, Kept, Recovered}
-use Rattle.audit_words.specs.Clauses.{Meaning, LeavesNothing, serial, done_at, located_by, located, world_after, world_behind, given, given_to, given_in, last_world, TellsMeaning}
+use Rattle.audit_words.specs.Clauses.{Meaning, LeavesNothing, serial, done_at, located_by, located, world_left_by, world_behind, given, given_to, given_in, last_world, TellsMeaning}
 use Rattle.audit_words.specs.Audited.{EachLine}
 use Rattle.audit_words.specs.Serial.{LineTellsState, txs}
 use Rattle.audit_words.specs.Reports.{actor_lines, report_lines, meaning_of, AllReplied, AnswersStand, IsDoneAt, CommittedStand}
@@ -62,7 +62,7 @@ from_serial m f w world [] e = tt
 from_serial m f w world (d ∷ ds) e =
     let h = heads (Some (m world (tx_at w d.tx)).result) d.result (map Some (serial m (m world (tx_at w d.tx)).world (txs w ds)).results) (map (λ (x : Done). x.result) ds) e in
     let l = leaves m f w world d h.0 in
-    (h.0, from_serial m f w (world_after m w world d) ds (subst (λ (z : List State). map Some (serial m z (txs w ds)).results ≡ map (λ (x : Done). x.result) ds) l h.1))
+    (h.0, from_serial m f w (world_left_by m w world d) ds (subst (λ (z : List State). map Some (serial m z (txs w ds)).results ≡ map (λ (x : Done). x.result) ds) l h.1))
 
 -- each of them is given what it is told
 differ_in : (n : ℕ) (d : Done) (ds : List Done) → AllByRecursion (λ e. n ≢ e.tx) ds → IsIn d ds → n ≢ d.tx
@@ -73,9 +73,9 @@ differ_in n d (x ∷ ds) h (inr i) = differ_in n d ds h.1 i
 given_in_list : (m : Meaning) (w : Text) (world : List State) (ds : List Done) (d : Done) → TxsDiffer ds → AsSaid m w world ds → IsIn d ds → given_to d.tx (given m w world ds) ≡ d.result
 given_in_list m w world [] d t a i = absurd i
 given_in_list m w world (x ∷ ds) d t a (inl e) =
-    subst (λ (z : Done). given_to z.tx (given m w world (x ∷ ds)) ≡ z.result) (sym e) (found_first x.tx _ (given m w (world_after m w world x) ds) ∙ a.0)
+    subst (λ (z : Done). given_to z.tx (given m w world (x ∷ ds)) ≡ z.result) (sym e) (found_first x.tx _ (given m w (world_left_by m w world x) ds) ∙ a.0)
 given_in_list m w world (x ∷ ds) d t a (inr i) =
-    found_behind d.tx x.tx _ (given m w (world_after m w world x) ds) (differ_in x.tx d ds t.0 i) ∙ given_in_list m w (world_after m w world x) ds d t.1 a.1 i
+    found_behind d.tx x.tx _ (given m w (world_left_by m w world x) ds) (differ_in x.tx d ds t.0 i) ∙ given_in_list m w (world_left_by m w world x) ds d t.1 a.1 i
 
 -- ---- who committed, as a report locates it
 

@@ -18,7 +18,7 @@ use Rattle.protocol.specs.Verdicts.{verdict}
 use Rattle.audit_words.specs.Audited.{EachLine}
 use Rattle.audit_words.specs.Beside.{BatchesRise, CommitsStand, EachTold, TellsPlaced}
 use Rattle.snap_report.specs.Lines.{shown_fields}
-use Rattle.audit_words.specs.Clauses.{HasPlace, TellsPlace}
+use Rattle.audit_words.specs.Clauses.{IsPlacedAt, TellsPlace}
 use Rattle.audit_words.specs.Papers.{Line, Reply, Actor, End, Kept, Recovered}
 use Rattle.audit_words.specs.Reports.{actor_lines, report_lines, AnswersStand, CommittedStand, IsDoneAt}
 use Rattle.audit_words.specs.Seen.{Member, Seen}
@@ -26,14 +26,14 @@ use Rattle.audit_laws.proofs.PlacesTold.{has_place}
 use Rattle.audit_laws.proofs.RepliesOnce.{replies_known}
 use Rattle.audit_laws.proofs.ReportsShape.{lines_said, said}
 
-from_done : (ran : ℕ → List ℕ) (ms : List Member) (ds : List Done) (n : ℕ) (p : Place) (r : TxResult) → EachTold ran ms ds → BatchesRise ds → IsDoneAt n p r ds → HasPlace n p ms
+from_done : (ran : ℕ → List ℕ) (ms : List Member) (ds : List Done) (n : ℕ) (p : Place) (r : TxResult) → EachTold ran ms ds → BatchesRise ds → IsDoneAt n p r ds → IsPlacedAt n p ms
 from_done ran ms ds n p r k h i =
     let q = has_place ran i.front i.done i.rest ms (subst (EachTold ran ms) i.splits k) (subst BatchesRise i.splits h) in
-    subst (λ (m : ℕ). HasPlace m p ms) i.tx (subst (λ (x : Place). HasPlace (i.done).tx x ms) i.place q)
+    subst (λ (m : ℕ). IsPlacedAt m p ms) i.tx (subst (λ (x : Place). IsPlacedAt (i.done).tx x ms) i.place q)
 
 said_place : (t : Seen) (n : ℕ) (o : Option Verdict)
-    → ((p : Place) (v : ℤ) → o ≡ Some (verdicts.Committed p v) → HasPlace n p t.members)
-    → ((p : Place) (c : ℕ) → o ≡ Some (verdicts.Code p c) → (p.side ≡ 1) × HasPlace n p t.members)
+    → ((p : Place) (v : ℤ) → o ≡ Some (verdicts.Committed p v) → IsPlacedAt n p t.members)
+    → ((p : Place) (c : ℕ) → o ≡ Some (verdicts.Code p c) → (p.side ≡ 1) × IsPlacedAt n p t.members)
     → TellsPlace t [] (Reply n (unwrap_or o (verdicts.Unsure 0)))
 said_place t n None f g = tt
 said_place t n (Some (verdicts.Committed p v)) f g = f p v refl

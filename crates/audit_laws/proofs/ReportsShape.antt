@@ -17,7 +17,7 @@ use Rattle.audit_words.specs.Papers.{Line, Reply, Actor, End}
 use Rattle.snap_report.specs.Lines.{shown_fields}
 use Rattle.audit_words.specs.Clauses.{is_unsure, is_answered, tells_commit, tells_other, MayFollow}
 use Rattle.audit_words.specs.Audited.{EachLine, HasShape}
-use Rattle.audit_words.specs.Reports.{line_by, reply_lines, actor_lines, report_lines, AnswersStand, AllReplied}
+use Rattle.audit_words.specs.Reports.{reply_line_of, reply_lines, actor_lines, report_lines, AnswersStand, AllReplied}
 use Rattle.audit_laws.proofs.LinesTell.{answered_join}
 use Rattle.audit_laws.proofs.RepliesOnce.{NewEach, IsKnown, among_join, replies_new, as_many_replies, replies_known}
 
@@ -41,7 +41,7 @@ each_join P (l ∷ ls) ms front h k = (h.0, each_join P ls ms (front ++ l ∷ []
 abbrev pub said : {C : Type 0} → Machine C → ℕ → Line
 said s n = Reply n (unwrap_or (verdict n s.book s.desk) (verdicts.Unsure 0))
 
-line_said : (n : ℕ) (o : Option Verdict) (v : Verdict) → o ≡ Some v → line_by n o ≡ Reply n (unwrap_or o (verdicts.Unsure 0)) ∷ []
+line_said : (n : ℕ) (o : Option Verdict) (v : Verdict) → o ≡ Some v → reply_line_of n o ≡ Reply n (unwrap_or o (verdicts.Unsure 0)) ∷ []
 line_said n o v e = rw e refl
 
 pub lines_said : {C : Type 0} (s : Machine C) (ns : List ℕ) → AllByRecursion (IsKnown s) ns → reply_lines (map (answer s) ns) ≡ map (said s) ns

@@ -11,7 +11,7 @@ use Rattle.protocol.specs.Words.{is_value}
 use Rattle.protocol.specs.History.{Done}
 use Rattle.audit_words.specs.Happenings.{seen}
 use Rattle.audit_words.specs.Papers.{Line, Actor}
-use Rattle.audit_words.specs.Clauses.{Language, Meaning, LeavesNothing, serial, located, given, given_to, given_in, world_after, world_behind, last_world, TellsMeaning}
+use Rattle.audit_words.specs.Clauses.{Language, Meaning, LeavesNothing, serial, located, given, given_to, given_in, world_left_by, world_behind, last_world, TellsMeaning}
 use Rattle.audit_words.specs.Audited.{Audited}
 use Rattle.audit_words.specs.Serial.{txs, told, LineTellsState, PrintedIsSerial}
 use Rattle.protocol_theorems.proofs.Lemmas.{all_sorted}
@@ -20,7 +20,7 @@ use Rattle.audit_laws.proofs.LinesTell.{all_lines, whatever_before, IsGiven, loc
 -- each gives what it is told, where those before it committed as told
 abbrev pub AsSaid : Meaning → Text → List State → List Done → Type 0
 AsSaid m w world [] = ⊤
-AsSaid m w world (d ∷ ds) = (Some (m world (tx_at w d.tx)).result ≡ d.result) × AsSaid m w (world_after m w world d) ds
+AsSaid m w world (d ∷ ds) = (Some (m world (tx_at w d.tx)).result ≡ d.result) × AsSaid m w (world_left_by m w world d) ds
 
 pub found_first : (n : ℕ) (r : TxResult) (gs : List (ℕ × TxResult)) → given_to n ((n, r) ∷ gs) ≡ Some r
 found_first n r gs = by (n == n) (eq-eqb n n refl)
@@ -43,14 +43,14 @@ behind_first n r gs (d ∷ ds) h k = (sym (found_behind d.tx n r gs h.0) ∙ k.0
 pub as_said : (m : Meaning) (w : Text) (world : List State) (ds : List Done) → TxsDiffer ds → AllByRecursion (IsGiven (given m w world ds)) ds → AsSaid m w world ds
 as_said m w world [] h k = tt
 as_said m w world (d ∷ ds) h k = (
-  sym (found_first d.tx (m world (tx_at w d.tx)).result (given m w (world_after m w world d) ds)) ∙ k.0,
-  as_said m w (world_after m w world d) ds h.1 (behind_first d.tx (m world (tx_at w d.tx)).result (given m w (world_after m w world d) ds) ds h.0 k.1),
+  sym (found_first d.tx (m world (tx_at w d.tx)).result (given m w (world_left_by m w world d) ds)) ∙ k.0,
+  as_said m w (world_left_by m w world d) ds h.1 (behind_first d.tx (m world (tx_at w d.tx)).result (given m w (world_left_by m w world d) ds) ds h.0 k.1),
 )
 
 -- ---- who fails leaves nothing
 
 -- it leaves what it is to leave
-pub leaves : (m : Meaning) → LeavesNothing m → (w : Text) (world : List State) (d : Done) → Some (m world (tx_at w d.tx)).result ≡ d.result → (m world (tx_at w d.tx)).world ≡ world_after m w world d
+pub leaves : (m : Meaning) → LeavesNothing m → (w : Text) (world : List State) (d : Done) → Some (m world (tx_at w d.tx)).result ≡ d.result → (m world (tx_at w d.tx)).world ≡ world_left_by m w world d
 leaves m f w world d e = by (is_value d.result) refl
   where
     by : (b : Bool) → is_value d.result ≡ b → (m world (tx_at w d.tx)).world ≡ (if b then (m world (tx_at w d.tx)).world else world)
@@ -64,10 +64,10 @@ pub all_results : (m : Meaning) → LeavesNothing m → (w : Text) (world : List
 all_results m f w world [] h = (refl, refl)
 all_results m f w world (d ∷ ds) h =
     let l = leaves m f w world d h.0 in
-    let k = all_results m f w (world_after m w world d) ds h.1 in (
+    let k = all_results m f w (world_left_by m w world d) ds h.1 in (
       subst (λ (z : List State). map Some ((m world (tx_at w d.tx)).result ∷ (serial m z (txs w ds)).results) ≡ d.result ∷ map (λ (x : Done). x.result) ds) (sym l)
-          (ap (λ (r : Option TxResult). r ∷ map Some (serial m (world_after m w world d) (txs w ds)).results) h.0 ∙ ap (λ (rs : List (Option TxResult)). d.result ∷ rs) k.0),
-      subst (λ (z : List State). (serial m z (txs w ds)).world ≡ world_behind m w (world_after m w world d) ds) (sym l) k.1,
+          (ap (λ (r : Option TxResult). r ∷ map Some (serial m (world_left_by m w world d) (txs w ds)).results) h.0 ∙ ap (λ (rs : List (Option TxResult)). d.result ∷ rs) k.0),
+      subst (λ (z : List State). (serial m z (txs w ds)).world ≡ world_behind m w (world_left_by m w world d) ds) (sym l) k.1,
     )
 
 abbrev valued : List Done → List Done
@@ -76,7 +76,7 @@ valued ds = filter (λ d. is_value d.result) ds
 kept_results : (m : Meaning) (w : Text) (world : List State) (ds : List Done) → AsSaid m w world ds
     → (map Some (serial m world (txs w (valued ds))).results ≡ map (λ d. d.result) (valued ds)) × ((serial m world (txs w (valued ds))).world ≡ world_behind m w world ds)
 kept_results m w world [] h = (refl, refl)
-kept_results m w world (d ∷ ds) h = by (is_value d.result) (kept_results m w (world_after m w world d) ds h.1)
+kept_results m w world (d ∷ ds) h = by (is_value d.result) (kept_results m w (world_left_by m w world d) ds h.1)
   where
     by : (b : Bool)
         → (map Some (serial m (if b then (m world (tx_at w d.tx)).world else world) (txs w (valued ds))).results ≡ map (λ (x : Done). x.result) (valued ds))

@@ -9,7 +9,7 @@ use Rattle.protocol.specs.Effects.{after}
 use Rattle.protocol.specs.Runs.{EachAllowed, IsRun, opening}
 use Rattle.audit_words.specs.Seen.{first_ring}
 use Rattle.audit_words.specs.Happenings.{ring_after}
-use Rattle.audit_words.specs.Audited.{on_ring, EachMeets}
+use Rattle.audit_words.specs.Audited.{ring_conditions, EachMeets}
 
 pub ring_is : {C : Type 0} (w : Fixed C) (e : Event) (s : Machine C) → (after w e s).ring ≡ ring_after w.text e s.ring
 unfolding after ring_after
@@ -20,7 +20,7 @@ ring_is w (Admit t) s = refl
 ring_is w (Abort k) s = refl
 ring_is w e s = refl
 
-meets : {C : Type 0} (w : Fixed C) (e : Event) (s : Machine C) → IsAllowed w e s → AllTrue (on_ring w.text e s.ring)
+meets : {C : Type 0} (w : Fixed C) (e : Event) (s : Machine C) → IsAllowed w e s → AllTrue (ring_conditions w.text e s.ring)
 unfolding conditions
 meets w (Submit n) s ok = ok
 meets w (Pass c) s ok = ok

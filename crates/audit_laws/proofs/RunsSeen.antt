@@ -34,7 +34,7 @@ use Rattle.protocol_theorems.proofs.order.RunsBefore.{is_open_with}
 use Rattle.protocol_theorems.proofs.order.SlicesKept.{Matched}
 use Rattle.protocol_theorems.proofs.order.ViewsExplain.{own_slices}
 use Rattle.audit_words.specs.Happenings.{added, comes, happened, may_abort, may_ask, met, seen_from}
-use Rattle.audit_words.specs.Seen.{Seen, is_batch, nothing_seen}
+use Rattle.audit_words.specs.Seen.{Seen, was_formed, nothing_seen}
 use Rattle.audit_laws.specs.RunsTold.{RunsAsTold, RunsAreSeen}
 use Rattle.audit_laws.proofs.NamesSeen.{either, asked}
 
@@ -198,7 +198,7 @@ unfolding added
 ran_stays r w (Run u a) t h = absurd (true≢false h)
 ran_stays r w (Arrive k a) t h = either (λ x. x.ran) (comes k a t) _ t refl
 ran_stays r w (Ask u a) t h = either (λ x. x.ran) (may_ask w u a t) _ t (asked (λ x. x.ran) u a (least_older u (met u a t)) t (λ older. refl) refl)
-ran_stays r w (Settle k) t h = either (λ x. x.ran) (is_batch k t && not (is_among k t.settled)) _ t refl
+ran_stays r w (Settle k) t h = either (λ x. x.ran) (was_formed k t && not (is_among k t.settled)) _ t refl
 ran_stays r w (Abort k) t h = either (λ x. x.ran) (may_abort k t) _ t refl
 ran_stays r w (Finish u a) t h = either (λ x. x.ran) _ _ t refl
 ran_stays r w e t h = refl

@@ -24,7 +24,7 @@ use Rattle.protocol_theorems.specs.Sizes.{AllFindRoom}
 use Rattle.protocol_theorems.proofs.order.ArrivesOnce.{AllPlaced}
 use Rattle.protocol_theorems.proofs.sets.AfterStand.{AfterStand}
 use Rattle.protocol_theorems.proofs.sets.BeforeStand.{BeforeStand}
-use Rattle.audit_words.specs.Seen.{Begun, Doom, Member, Older, Seen, act_in, has_place, is_given_up, next_c}
+use Rattle.audit_words.specs.Seen.{Begun, Doom, Member, Older, Seen, act_in, has_its_place, was_given_up, next_c}
 use Rattle.audit_laws.proofs.Acts.{status_at}
 
 -- ---- the same transaction, at the same place
@@ -59,8 +59,8 @@ pub record Tells {C : Type 0} (w : Fixed C) (s : Machine C) (h : History) (t : S
   pub before : t.before ≡ h.before
   pub behind : t.behind ≡ h.behind
   pub gains : t.gains ≡ h.gains
-  pub dooms : (u : ℕ) → is_given_up t.dooms u ≡ doomed_at s.book.acts u
-  pub ordered : (u : ℕ) → has_place (OfAct u) t.members ≡ status_at is_ordered s.book.acts u
+  pub dooms : (u : ℕ) → was_given_up t.dooms u ≡ doomed_at s.book.acts u
+  pub ordered : (u : ℕ) → has_its_place (OfAct u) t.members ≡ status_at is_ordered s.book.acts u
   pub next_c : next_c w.text t ≡ s.book.next_c
   pub members : EachSame t.members h.committed
 
@@ -80,8 +80,8 @@ pub record AskedTells {C : Type 0} (w : Fixed C) (u a : ℕ) (s : Machine C) (h 
   pub before : t.before ≡ history.asked_before (is_none o) u a s h
   pub behind : t.behind ≡ h.behind
   pub gains : t.gains ≡ carrying (asked_acts_by u a o s) (history.gains_after_ask (is_none o) u a s h)
-  pub dooms : (v : ℕ) → is_given_up t.dooms v ≡ doomed_at (asked_acts_by u a o s) v
-  pub ordered : (v : ℕ) → has_place (OfAct v) t.members ≡ status_at is_ordered (asked_acts_by u a o s) v
+  pub dooms : (v : ℕ) → was_given_up t.dooms v ≡ doomed_at (asked_acts_by u a o s) v
+  pub ordered : (v : ℕ) → has_its_place (OfAct v) t.members ≡ status_at is_ordered (asked_acts_by u a o s) v
   pub next_c : next_c w.text t ≡ s.book.next_c
   pub members : EachSame t.members h.committed
 

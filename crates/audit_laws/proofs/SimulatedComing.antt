@@ -35,8 +35,8 @@ use Rattle.protocol_theorems.specs.Sets.{least_in}
 use Rattle.protocol_theorems.proofs.order.ArrivesOnce.{arrives_once}
 use Rattle.protocol_theorems.proofs.sets.AtPlacing.{arrive_ends, ask_ends}
 use Rattle.audit_words.specs.Happenings as told
-use Rattle.audit_words.specs.Happenings.{ahead_of, comes, cross_out, gain, may_ask, met, with_act, with_batch, with_pairs}
-use Rattle.audit_words.specs.Seen.{Seen, acts_among, batch_in, goes_to, is_act, is_cut_off, is_given_up, is_there, least, lock_in}
+use Rattle.audit_words.specs.Happenings.{ahead_of, comes, cross_out, gain, may_ask, met, act_placed_last, batch_placed_last, with_pairs}
+use Rattle.audit_words.specs.Seen.{Seen, acts_among, batch_in, goes_to, was_admitted, was_taken_along, was_given_up, is_one_of_these, least, lock_in}
 use Rattle.audit_laws.specs.Names.{TellsNames}
 use Rattle.audit_laws.proofs.Acts.{changed_status, crossed_ordered, died_ordered, doomed_died, if_tid, mapped_status, mapped_tids, raised_status, raised_tids, status_at}
 use Rattle.audit_laws.proofs.GivenUp.{crossed_told, given_join, same_least, seen_crossing}
@@ -61,8 +61,8 @@ module _ {C : Type 0} (w : Fixed C) (fr : Frames C) where
   unfolding conditions
   comes_told Of finish k a s h t ok f n g =
       and_from (goes_to a (batch_in k t.batches)) _ (goes_same k a t.batches s.desk.batches n.bids n.actors ∙ goes k a s h ok f.good.good.from_desk.subs)
-      (and_from (not (is_there (OfBatch k) (t.placed a))) (not (is_cut_off k t.cuts))
-      (ap not (ap (is_there (OfBatch k)) (g.placed a) ∙ (there_placed (OfBatch k) (h.placed a) ∙ arrives_once w k a s h ok f.good.good.agreeing f.once)))
+      (and_from (not (is_one_of_these (OfBatch k) (t.placed a))) (not (was_taken_along k t.cuts))
+      (ap not (ap (is_one_of_these (OfBatch k)) (g.placed a) ∙ (there_placed (OfBatch k) (h.placed a) ∙ arrives_once w k a s h ok f.good.good.agreeing f.once)))
       (ap not (cut_same k t.cuts s.book.cascades n.firsts n.uptos) ∙ ok.1.0))
 
   pub arrives_in : (k a : ℕ) (s : Machine C) → IsAllowed w (Arrive k a) s → a < length s.cells
@@ -111,15 +111,15 @@ module _ {C : Type 0} (w : Fixed C) (fr : Frames C) where
 
   -- behind an Arrive
   pub arriving_kept : (Of : Tx → C → Type 0) (finish : C → List State → Alone) (k a : ℕ) (s : Machine C) (h : History) (t : Seen) → IsAllowed w (Arrive k a) s → SimFacts w Of finish s h → TellsNames w s t → Tells w s h t
-      → Tells w (after w (Arrive k a) s) (grown w (Arrive k a) s h) (cross_out a (with_batch k a t))
+      → Tells w (after w (Arrive k a) s) (grown w (Arrive k a) s h) (cross_out a (batch_placed_last k a t))
   unfolding after grown
   arriving_kept Of finish k a s h t ok f n g =
       let inside = arrives_in k a s ok in
       let ts = book.tids_on (cell_at s a).entries in
       let xs = map (book.lowered k ts) s.book.acts in
-      let x : Seen = with_batch k a t in
+      let x : Seen = batch_placed_last k a t in
       let behind : x.behind ≡ history.behind_too k ts h.behind = ap (λ (ns : List ℕ). history.behind_too k ns t.behind) (ap acts_among (g.entries a) ∙ acts_same (cell_at s a).entries) ∙ ap (history.behind_too k ts) g.behind in
-      let dooms : (u : ℕ) → is_given_up (cross_out a x).dooms u ≡ doomed_at (map (crossed_out a) xs) u =
+      let dooms : (u : ℕ) → was_given_up (cross_out a x).dooms u ≡ doomed_at (map (crossed_out a) xs) u =
       λ u. crossed_told a u x xs (n.tids ∙ sym (mapped_tids (book.lowered k ts) s.book.acts (λ y. refl))) (g.dooms u ∙ sym (lowered_status is_doomed k ts u s.book.acts))
       (λ y e. seen_crossing x u y (g.dooms u ∙ live_of is_doomed u xs s.book.acts y (lowered_status is_doomed k ts u s.book.acts) e) (g.ordered u ∙ live_of is_ordered u xs s.book.acts y (lowered_status is_ordered k ts u s.book.acts) e)
       (λ l.
@@ -162,10 +162,10 @@ module _ {C : Type 0} (w : Fixed C) (fr : Frames C) where
   pub may_told : (Of : Tx → C → Type 0) (finish : C → List State → Alone) (u a : ℕ) (s : Machine C) (h : History) (t : Seen) → IsAllowed w (Ask u a) s → SimFacts w Of finish s h → TellsNames w s t → Tells w s h t → may_ask w.text u a t ≡ true
   unfolding conditions
   may_told Of finish u a s h t ok f n g =
-      and_from (is_act u t && nat_lt a (length w.text.opening.states)) (not (is_given_up t.dooms u) && not (is_there (OfAct u) (t.entries a)))
-      (and_from (is_act u t) (nat_lt a (length w.text.opening.states)) (ap is_some (act_pair u x.0 t.acts s.book.acts n.tids n.txs n.readers x.1.0).1.0) (lt-ltb a (length w.text.opening.states) (omega (arith, asks_in u a s ok, f.cells))))
-      (and_from (not (is_given_up t.dooms u)) (not (is_there (OfAct u) (t.entries a))) (ap not (g.dooms u ∙ doomed))
-      (ap not (ap (is_there (OfAct u)) (g.entries a) ∙ there_same u (cell_at s a).entries) ∙ held (λ c. not (has_act u c.entries)) s.cells a no_cell ok.1.1.0))
+      and_from (was_admitted u t && nat_lt a (length w.text.opening.states)) (not (was_given_up t.dooms u) && not (is_one_of_these (OfAct u) (t.entries a)))
+      (and_from (was_admitted u t) (nat_lt a (length w.text.opening.states)) (ap is_some (act_pair u x.0 t.acts s.book.acts n.tids n.txs n.readers x.1.0).1.0) (lt-ltb a (length w.text.opening.states) (omega (arith, asks_in u a s ok, f.cells))))
+      (and_from (not (was_given_up t.dooms u)) (not (is_one_of_these (OfAct u) (t.entries a))) (ap not (g.dooms u ∙ doomed))
+      (ap not (ap (is_one_of_these (OfAct u)) (g.entries a) ∙ there_same u (cell_at s a).entries) ∙ held (λ c. not (has_act u c.entries)) s.cells a no_cell ok.1.1.0))
     where
       x : (y : Act) × ((act_of u s.book.acts ≡ Some y) × (is_live_status y.status ≡ true))
       x = was_live u s.book.acts (asks_live Of finish u a s h ok f)
@@ -177,9 +177,9 @@ module _ {C : Type 0} (w : Fixed C) (fr : Frames C) where
   pub dies_kept : (u a older : ℕ) (s : Machine C) (h : History) (t : Seen) → a < length s.cells → length s.cells ≡ length w.text.opening.states → status_at is_live_status s.book.acts u ≡ true → Tells w s h t → AskedTells w u a s h (Some older) (told.asks u a (Some older) t)
   dies_kept u a older s h t inside cells live g =
       let acts = book.changed_act u (book.doomed_by (died a older u)) s.book.acts in
-      let dooms : (v : ℕ) → is_given_up (t.dooms ++ died_as u a older ∷ []) v ≡ doomed_at acts v =
+      let dooms : (v : ℕ) → was_given_up (t.dooms ++ died_as u a older ∷ []) v ≡ doomed_at acts v =
       λ v. given_join v t.dooms (died_as u a older ∷ [])
-      ∙ (ap (λ (b : Bool). b || is_given_up (died_as u a older ∷ []) v) (g.dooms v) ∙ (ap (λ (b : Bool). doomed_at s.book.acts v || b) (alone (u == v)) ∙ sym (doomed_died u (died a older u) v s.book.acts live))) in
+      ∙ (ap (λ (b : Bool). b || was_given_up (died_as u a older ∷ []) v) (g.dooms v) ∙ (ap (λ (b : Bool). doomed_at s.book.acts v || b) (alone (u == v)) ∙ sym (doomed_died u (died a older u) v s.book.acts live))) in
       record {
         placed = at_right t.placed h.placed a (h.placed a ++ []) (g.placed a ∙ sym (append-nil (h.placed a))) g.placed;
         beyond = beyond_more (length w.text.opening.states) a _ h.placed (omega (arith, inside, cells)) g.beyond;
@@ -201,7 +201,7 @@ module _ {C : Type 0} (w : Fixed C) (fr : Frames C) where
 
   -- nobody is
   pub joins_kept : (Of : Tx → C → Type 0) (finish : C → List State → Alone) (u a : ℕ) (s : Machine C) (h : History) (t : Seen) → IsAllowed w (Ask u a) s → SimFacts w Of finish s h → TellsNames w s t → Tells w s h t
-      → book.in_the_way (lock_of u s.book.acts) (cell_at s a).entries ≡ None → AskedTells w u a s h None (cross_out a (with_act u a t))
+      → book.in_the_way (lock_of u s.book.acts) (cell_at s a).entries ≡ None → AskedTells w u a s h None (cross_out a (act_placed_last u a t))
   unfolding after grown
   joins_kept Of finish u a s h t ok f n g none =
       let inside = asks_in u a s ok in
@@ -209,9 +209,9 @@ module _ {C : Type 0} (w : Fixed C) (fr : Frames C) where
       let m = max (cell_at s a).last (floor_at u s.book.acts (cell_at s a)) in
       let joined = book.changed_act u (book.joins a m) s.book.acts in
       let xs = raised (s.book.pairs ++ book.new_pairs u a group s.book.acts) joined in
-      let x : Seen = with_act u a t in
+      let x : Seen = act_placed_last u a t in
       let ahead : ahead_of u a t ≡ filter (λ (z : Lock). not (book.is_doomed_act s.book.acts z)) group =
-      ap (filter (λ (z : Lock). not (is_given_up t.dooms z.tid))) (met_told Of finish u a s h t f n g) ∙ filter_same (λ (z : Lock). not (is_given_up t.dooms z.tid)) (λ (z : Lock). not (book.is_doomed_act s.book.acts z)) group (λ z. ap not (g.dooms z.tid)) in
+      ap (filter (λ (z : Lock). not (was_given_up t.dooms z.tid))) (met_told Of finish u a s h t f n g) ∙ filter_same (λ (z : Lock). not (was_given_up t.dooms z.tid)) (λ (z : Lock). not (book.is_doomed_act s.book.acts z)) group (λ z. ap not (g.dooms z.tid)) in
       let pairs : with_pairs u a t ≡ history.asked_gains u a s h =
       ap (λ (ps : List Pair). ps ++ map (stands_behind u a) (ahead_of u a t)) g.gains ∙ ap (λ (zs : List Lock). h.gains ++ map (stands_behind u a) zs) ahead in
       let more : gain u a t ≡ asked_set u a s h =
@@ -229,7 +229,7 @@ module _ {C : Type 0} (w : Fixed C) (fr : Frames C) where
       λ p v. raised_status p (s.book.pairs ++ book.new_pairs u a group s.book.acts) v joined ∙ changed_status p u (book.joins a m) v s.book.acts (λ y. refl) (λ y. refl) in
       let tids : map (λ (y : Act). y.tid) xs ≡ map (λ (y : Act). y.tid) s.book.acts =
       raised_tids (s.book.pairs ++ book.new_pairs u a group s.book.acts) joined ∙ mapped_tids (λ (y : Act). book.change_if (y.tid == u) (book.joins a m) y) s.book.acts (λ y. if_tid (y.tid == u) (book.joins a m) y refl) in
-      let dooms : (v : ℕ) → is_given_up (cross_out a x).dooms v ≡ doomed_at (map (crossed_out a) xs) v =
+      let dooms : (v : ℕ) → was_given_up (cross_out a x).dooms v ≡ doomed_at (map (crossed_out a) xs) v =
       λ v. crossed_told a v x xs (n.tids ∙ sym tids) (g.dooms v ∙ sym (status is_doomed v))
       (λ y e. seen_crossing x v y (g.dooms v ∙ live_of is_doomed v xs s.book.acts y (status is_doomed v) e) (g.ordered v ∙ live_of is_ordered v xs s.book.acts y (status is_ordered v) e)
       (λ l.

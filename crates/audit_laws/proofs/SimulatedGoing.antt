@@ -22,7 +22,7 @@ use Rattle.protocol_laws.proofs.machine.PlaceLists.{batches_left, batches_withou
 use Rattle.protocol_laws.proofs.machine.PlacesKept.{Placed}
 use Rattle.protocol_laws.proofs.machine.TracksKept.{beside, beside_same, filter_same, in_range}
 use Rattle.audit_words.specs.Happenings as told
-use Rattle.audit_words.specs.Seen.{Seen, is_cut_off, is_there}
+use Rattle.audit_words.specs.Seen.{Seen, was_taken_along, is_one_of_these}
 use Rattle.audit_laws.specs.Names.{TellsNames}
 use Rattle.audit_laws.proofs.Acts.{changed_status, status_at}
 use Rattle.audit_laws.proofs.NamesSeen.{Frames}
@@ -53,21 +53,21 @@ module _ {C : Type 0} (w : Fixed C) (fr : Frames C) where
   }
 
   pub rolling_kept : (Of : Tx → C → Type 0) (finish : C → List State → Alone) (a : ℕ) (s : Machine C) (h : History) (t : Seen) → IsAllowed w (Rollback a) s → SimFacts w Of finish s h → TellsNames w s t → Tells w s h t
-      → Tells w (after w (Rollback a) s) (grown w (Rollback a) s h) (told.rolled_back a t)
+      → Tells w (after w (Rollback a) s) (grown w (Rollback a) s h) (told.cut_entries_gone a t)
   unfolding after grown conditions Placed
   rolling_kept Of finish a s h t ok f n g =
       let inside = in_range _ s.cells a ok.0 in
       let less : (cell_at s a).epoch < length s.book.cascades = ltb-true (cell_at s a).epoch (length s.book.cascades) (held (λ c. nat_lt c.epoch (length s.book.cascades)) s.cells a no_cell ok.0) in
       let x = one_at s.book.cascades (cell_at s a).epoch less in
-      let c : (k : ℕ) → is_cut_off k t.cuts ≡ is_aborted k s.book.cascades = λ k. cut_same k t.cuts s.book.cascades n.firsts n.uptos in
+      let c : (k : ℕ) → was_taken_along k t.cuts ≡ is_aborted k s.book.cascades = λ k. cut_same k t.cuts s.book.cascades n.firsts n.uptos in
       record {
         placed = g.placed;
         beyond = g.beyond;
-        entries = beside EntriesAre s.cells a _ (told.stays false t.cuts (t.entries a)) t.entries inside
-            (λ e. ap (told.stays false t.cuts) e ∙ rolled_same t.cuts s.book.cascades (x.0).first (cell_at s a).entries c ((f.lies a).cut x.0 x.1) (f.lies a).ascends) g.entries;
-        kept = at_long_both a _ h.long (filter (λ k. not (is_cut_off k t.cuts)) (t.kept a)) t.kept
-            (ap (filter (λ (k : ℕ). not (is_cut_off k t.cuts))) (g.kept a)
-            ∙ (filter_same (λ (k : ℕ). not (is_cut_off k t.cuts)) (λ (k : ℕ). not (is_aborted k s.book.cascades)) (batches_in (h.long a)) (λ k. ap not (c k))
+        entries = beside EntriesAre s.cells a _ (told.uncut_entries false t.cuts (t.entries a)) t.entries inside
+            (λ e. ap (told.uncut_entries false t.cuts) e ∙ rolled_same t.cuts s.book.cascades (x.0).first (cell_at s a).entries c ((f.lies a).cut x.0 x.1) (f.lies a).ascends) g.entries;
+        kept = at_long_both a _ h.long (filter (λ k. not (was_taken_along k t.cuts)) (t.kept a)) t.kept
+            (ap (filter (λ (k : ℕ). not (was_taken_along k t.cuts))) (g.kept a)
+            ∙ (filter_same (λ (k : ℕ). not (was_taken_along k t.cuts)) (λ (k : ℕ). not (is_aborted k s.book.cascades)) (batches_in (h.long a)) (λ k. ap not (c k))
             ∙ kept_staying s.ring.next_bid s.desk.settled (cell_at s a).epoch (cell_at s a).tail s.book.cascades (h.long a) (f.good.good.placed a).fit (f.good.good.placed a).ascends (f.good.good.placed a).firm)) g.kept;
         left_sealed = g.left_sealed;
         before = g.before;
@@ -82,9 +82,9 @@ module _ {C : Type 0} (w : Fixed C) (fr : Frames C) where
   -- ---- an ACT leaves
 
   pub finishing_kept : (Of : Tx → C → Type 0) (finish : C → List State → Alone) (u a : ℕ) (s : Machine C) (h : History) (t : Seen) → IsAllowed w (Finish u a) s → SimFacts w Of finish s h → TellsNames w s t → Tells w s h t
-      → Tells w (after w (Finish u a) s) (grown w (Finish u a) s h) (if is_there (OfAct u) (t.entries a) then told.left u a t else t)
+      → Tells w (after w (Finish u a) s) (grown w (Finish u a) s h) (if is_one_of_these (OfAct u) (t.entries a) then told.left u a t else t)
   unfolding after grown conditions
-  finishing_kept Of finish u a s h t ok f n g = by (is_there (OfAct u) (t.entries a)) refl
+  finishing_kept Of finish u a s h t ok f n g = by (is_one_of_these (OfAct u) (t.entries a)) refl
     where
       inside : a < length s.cells
       inside = leaves_in w Of finish u a s h f.given ok f.good
@@ -100,16 +100,16 @@ module _ {C : Type 0} (w : Fixed C) (fr : Frames C) where
       long false = batches_left (OfAct u) (h.long a)
 
       -- what it leaves sealed, as the book has it
-      sealed : told.seals u t ≡ history.seals u (act_of u s.book.acts)
+      sealed : told.left_as_sealed u t ≡ history.seals u (act_of u s.book.acts)
       sealed = seals_same w u a s h t ok n g
 
-      by : (b : Bool) → is_there (OfAct u) (t.entries a) ≡ b → Tells w (after w (Finish u a) s) (grown w (Finish u a) s h) (if b then told.left u a t else t)
+      by : (b : Bool) → is_one_of_these (OfAct u) (t.entries a) ≡ b → Tells w (after w (Finish u a) s) (grown w (Finish u a) s h) (if b then told.left u a t else t)
       by true e = record {
         placed = g.placed;
         beyond = g.beyond;
         entries = beside EntriesAre s.cells a _ (filter (λ y. not (is_who y (OfAct u))) (t.entries a)) t.entries inside (λ i. entries (t.entries a) i) g.entries;
         kept = at_long a _ h.long t.kept (long (history.is_traceless (act_of u s.book.acts))) g.kept;
-        left_sealed = at_both t.left_sealed h.left_sealed a _ _ (ap (λ (xs : List Lock). xs ++ told.seals u t) (g.left_sealed a) ∙ ap (λ (xs : List Lock). h.left_sealed a ++ xs) sealed) g.left_sealed;
+        left_sealed = at_both t.left_sealed h.left_sealed a _ _ (ap (λ (xs : List Lock). xs ++ told.left_as_sealed u t) (g.left_sealed a) ∙ ap (λ (xs : List Lock). h.left_sealed a ++ xs) sealed) g.left_sealed;
         before = g.before;
         behind = g.behind;
         gains = ap (filter (λ (p : Pair). not ((p.ahead == u) && (p.actor == a)))) g.gains;
@@ -119,7 +119,7 @@ module _ {C : Type 0} (w : Fixed C) (fr : Frames C) where
         members = g.members;
       }
       by false e =
-          let gone = not_there w Of finish u a s h ok f (sym (ap (is_there (OfAct u)) (g.entries a) ∙ there_same u (cell_at s a).entries) ∙ e) in
+          let gone = not_there w Of finish u a s h ok f (sym (ap (is_one_of_these (OfAct u)) (g.entries a) ∙ there_same u (cell_at s a).entries) ∙ e) in
           record {
             placed = g.placed;
             beyond = g.beyond;

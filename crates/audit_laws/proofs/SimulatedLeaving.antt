@@ -28,7 +28,7 @@ use Rattle.protocol_laws.proofs.machine.TracksKept.{act_not_among}
 use Rattle.protocol_laws.proofs.machine.TrackLists.{is_who_sym}
 use Rattle.protocol_theorems.proofs.sets.GainsKept.{GainsAre}
 use Rattle.audit_words.specs.Happenings as told
-use Rattle.audit_words.specs.Seen.{Seen, is_given_up, is_there, lock_in}
+use Rattle.audit_words.specs.Seen.{Seen, was_given_up, is_one_of_these, lock_in}
 use Rattle.audit_laws.specs.Names.{TellsNames}
 use Rattle.audit_laws.proofs.Acts.{status_at}
 use Rattle.audit_laws.proofs.Standing.{lock, lock_same}
@@ -56,10 +56,10 @@ kept_staying next n ep tail cs (history.Gone (OfAct t) ss ∷ rs) f a g = kept_s
 
 -- ---- an ACT that leaves
 
-pub nothing_filtered : (who : Who) (ws : List Who) → is_there who ws ≡ false → filter (λ y. not (is_who y who)) ws ≡ ws
+pub nothing_filtered : (who : Who) (ws : List Who) → is_one_of_these who ws ≡ false → filter (λ y. not (is_who y who)) ws ≡ ws
 nothing_filtered who [] e = refl
 nothing_filtered who (y ∷ ws) e =
-    let q = or_parts (is_who who y) (is_there who ws) e in
+    let q = or_parts (is_who who y) (is_one_of_these who ws) e in
     ap (λ (b : Bool). if not b then y ∷ filter (λ y. not (is_who y who)) ws else filter (λ y. not (is_who y who)) ws) (is_who_sym y who ∙ q.0) ∙ ap (λ (zs : List Who). y ∷ zs) (nothing_filtered who ws q.1)
 
 pub nothing_gained : (u a : ℕ) (acts : List Act) (ps : List Pair) → doomed_at acts u ≡ true → filter (λ p. not ((p.ahead == u) && (p.actor == a))) (carrying acts ps) ≡ carrying acts ps
@@ -83,10 +83,10 @@ pub trims_in : {C : Type 0} (w : Fixed C) (Of : Tx → C → Type 0) (finish : C
 unfolding shows.Owed
 trims_in w Of finish k a s h v ok g = owed w Of finish (Trim k a) s h v ok g
 
-pub seals_same : {C : Type 0} (w : Fixed C) (u a : ℕ) (s : Machine C) (h : History) (t : Seen) → IsAllowed w (Finish u a) s → TellsNames w s t → Tells w s h t → told.seals u t ≡ history.seals u (act_of u s.book.acts)
+pub seals_same : {C : Type 0} (w : Fixed C) (u a : ℕ) (s : Machine C) (h : History) (t : Seen) → IsAllowed w (Finish u a) s → TellsNames w s t → Tells w s h t → told.left_as_sealed u t ≡ history.seals u (act_of u s.book.acts)
 unfolding conditions
 seals_same w u a s h t ok n g =
-    ap (λ (b : Bool). if b && not (is_given_up t.dooms u) then lock_in t.acts u ∷ [] else []) (g.ordered u)
+    ap (λ (b : Bool). if b && not (was_given_up t.dooms u) then lock_in t.acts u ∷ [] else []) (g.ordered u)
     ∙ (ap (λ (b : Bool). if status_at is_ordered s.book.acts u && not b then lock_in t.acts u ∷ [] else []) (g.dooms u)
     ∙ (ap (λ (l : Lock). if status_at is_ordered s.book.acts u && not (doomed_at s.book.acts u) then l ∷ [] else []) (lock_same u t.acts s.book.acts n.tids n.readers) ∙ by (act_of u s.book.acts) ok.0))
   where

@@ -13,7 +13,7 @@ use Rattle.protocol_laws.specs.Highs.{doomed_at}
 use Rattle.protocol_laws.proofs.machine.TracksKept.{filter_same}
 use Rattle.audit_words.specs.Happenings as told
 use Rattle.audit_words.specs.Happenings.{spread}
-use Rattle.audit_words.specs.Seen.{Begun, Doom, Member, batch_in, has_place, is_given_up}
+use Rattle.audit_words.specs.Seen.{Begun, Doom, Member, batch_in, has_its_place, was_given_up}
 use Rattle.audit_laws.proofs.RunsSeen.{any_join}
 use Rattle.audit_laws.proofs.Simulated.{EachSame}
 
@@ -66,9 +66,9 @@ owners_at {C} (x ∷ xs) (y ∷ ys) (suc a) e =
 
 -- ---- gains
 
-pub still_gaining : (d : List Doom) (acts : List Act) (ps qs : List Pair) → ((u : ℕ) → is_given_up d u ≡ doomed_at acts u) → ps ≡ qs → filter (λ p. not (is_given_up d p.ahead)) ps ≡ carrying acts qs
+pub still_gaining : (d : List Doom) (acts : List Act) (ps qs : List Pair) → ((u : ℕ) → was_given_up d u ≡ doomed_at acts u) → ps ≡ qs → filter (λ p. not (was_given_up d p.ahead)) ps ≡ carrying acts qs
 still_gaining d acts ps qs h e =
-    ap (filter (λ (p : Pair). not (is_given_up d p.ahead))) e ∙ filter_same (λ (p : Pair). not (is_given_up d p.ahead)) (λ (p : Pair). not (doomed_at acts p.ahead)) qs (λ p. ap not (h p.ahead))
+    ap (filter (λ (p : Pair). not (was_given_up d p.ahead))) e ∙ filter_same (λ (p : Pair). not (was_given_up d p.ahead)) (λ (p : Pair). not (doomed_at acts p.ahead)) qs (λ p. ap not (h p.ahead))
 
 pub spread_same : (ps : List Pair) (bs : List Begun) (xs : List Act) (f : ℕ → List ℕ) → map (λ x. x.tid) bs ≡ map (λ x. x.tid) xs → spread ps bs f ≡ spread_sets ps xs f
 spread_same ps [] [] f e = refl
@@ -81,16 +81,16 @@ spread_same ps (b ∷ bs) (x ∷ xs) f e =
 
 -- ---- who has its place
 
-pub place_join : (who : Who) (ms ns : List Member) → has_place who (ms ++ ns) ≡ (has_place who ms || has_place who ns)
+pub place_join : (who : Who) (ms ns : List Member) → has_its_place who (ms ++ ns) ≡ (has_its_place who ms || has_its_place who ns)
 place_join who ms ns = any_join (λ (m : Member). is_who who m.who) ms ns
 
-pub place_same : (who : Who) (ms : List Member) (ds : List Done) → EachSame ms ds → has_place who ms ≡ list_any (λ d. is_who who d.who) ds
+pub place_same : (who : Who) (ms : List Member) (ds : List Done) → EachSame ms ds → has_its_place who ms ≡ list_any (λ d. is_who who d.who) ds
 place_same who [] [] h = refl
 place_same who [] (d ∷ ds) h = absurd h
 place_same who (m ∷ ms) [] h = absurd h
-place_same who (m ∷ ms) (d ∷ ds) h = ap (λ (z : Who). is_who who z || has_place who ms) (h.0).who ∙ ap (λ (b : Bool). is_who who d.who || b) (place_same who ms ds h.1)
+place_same who (m ∷ ms) (d ∷ ds) h = ap (λ (z : Who). is_who who z || has_its_place who ms) (h.0).who ∙ ap (λ (b : Bool). is_who who d.who || b) (place_same who ms ds h.1)
 
-pub pacts_no_act : (u k : ℕ) (ps : List Pact) → has_place (OfAct u) (map (told.pact_member k) ps) ≡ false
+pub pacts_no_act : (u k : ℕ) (ps : List Pact) → has_its_place (OfAct u) (map (told.pact_member k) ps) ≡ false
 pacts_no_act u k [] = refl
 pacts_no_act u k (p ∷ ps) = pacts_no_act u k ps
 
@@ -119,7 +119,7 @@ pacts_same k h (p ∷ ps) (q ∷ qs) e f =
     (record { who = refl; tid = i; tx = u; place = ap (λ (n : ℕ). pact_place k n) i; reader = refl }, pacts_same k h ps qs j v)
 
 pub committing_same : (k : ℕ) (h : History) (ms : List Member) (bs : List Formed) (cs : List Batch) → map (λ b. b.bid) bs ≡ map (λ b. b.bid) cs → map (λ b. map (λ p. p.tid) b.pacts) bs ≡ map (λ b. map (λ p. p.tid) b.pacts) cs
-    → map (λ b. map (λ p. p.tx) b.pacts) bs ≡ map (λ b. map (λ p. p.tx) b.pacts) cs → has_place (OfBatch k) ms ≡ false → EachSame (told.committing k (batch_in k bs) ms) (done_batch k h (batch_of k cs))
+    → map (λ b. map (λ p. p.tx) b.pacts) bs ≡ map (λ b. map (λ p. p.tx) b.pacts) cs → has_its_place (OfBatch k) ms ≡ false → EachSame (told.committing k (batch_in k bs) ms) (done_batch k h (batch_of k cs))
 committing_same k h ms [] [] e f g n = tt
 committing_same k h ms [] (c ∷ cs) e f g n = absurd (cc e)
 committing_same k h ms (b ∷ bs) [] e f g n = absurd (cc e)
@@ -133,7 +133,7 @@ committing_same k h ms (b ∷ bs) (c ∷ cs) e f g n =
     subst (λ (m : ℕ). EachSame (told.committing k (if m == k then Some b else batch_in k bs) ms) (done_batch k h (if c.bid == k then Some c else batch_of k cs))) (sym i)
     (by (c.bid == k) (subst (λ (z : Bool). EachSame (if z then [] else map (told.pact_member k) b.pacts) (map (done_pact k h) c.pacts)) (sym n) (pacts_same k h b.pacts c.pacts p u)) (committing_same k h ms bs cs j q v n))
   where
-    by : (z : Bool) → EachSame (if has_place (OfBatch k) ms then [] else map (told.pact_member k) b.pacts) (map (done_pact k h) c.pacts) → EachSame (told.committing k (batch_in k bs) ms) (done_batch k h (batch_of k cs))
+    by : (z : Bool) → EachSame (if has_its_place (OfBatch k) ms then [] else map (told.pact_member k) b.pacts) (map (done_pact k h) c.pacts) → EachSame (told.committing k (batch_in k bs) ms) (done_batch k h (batch_of k cs))
         → EachSame (told.committing k (if z then Some b else batch_in k bs) ms) (done_batch k h (if z then Some c else batch_of k cs))
     by true x r = x
     by false x r = r

@@ -25,7 +25,7 @@ use Rattle.protocol_laws.proofs.first.Statuses.{live_not_doomed}
 use Rattle.protocol_laws.proofs.machine.TrackLists.{is_who_true}
 use Rattle.audit_words.specs.Happenings as told
 use Rattle.audit_words.specs.Happenings.{give_up, taken_by, with_cut}
-use Rattle.audit_words.specs.Seen.{Begun, Member, Seen, Taken, act_in, batch_in, has_place, is_given_up, is_live, next_c}
+use Rattle.audit_words.specs.Seen.{Begun, Member, Seen, Taken, act_in, batch_in, has_its_place, was_given_up, is_live, next_c}
 use Rattle.audit_laws.specs.Names.{TellsNames}
 use Rattle.audit_laws.proofs.Acts.{cascaded_ordered, doomed_cascaded, doomed_decided, ordered_decided, status_at}
 use Rattle.audit_laws.proofs.GivenUp.{act_among, given_join, given_made, live_is}
@@ -52,22 +52,22 @@ module _ {C : Type 0} (w : Fixed C) (fr : Frames C) where
         behind = g.behind;
         gains = g.gains;
         dooms = g.dooms;
-        ordered = λ u. place_join (OfAct u) t.members new ∙ (or_only (has_place (OfAct u) t.members) (has_place (OfAct u) new) (no_act u (batch_in k t.batches)) ∙ g.ordered u);
+        ordered = λ u. place_join (OfAct u) t.members new ∙ (or_only (has_its_place (OfAct u) t.members) (has_its_place (OfAct u) new) (no_act u (batch_in k t.batches)) ∙ g.ordered u);
         next_c = ap (λ (z : ℕ). w.text.opening.next_c + z) (omega (arith, count_join t.members new, none_more (batch_in k t.batches))) ∙ g.next_c;
         members = same_join t.members new h.committed _ g.members (committing_same k h t.members t.batches s.desk.batches n.bids n.batch_tids n.batch_txs absent);
       }
     where
-      no_act : (u : ℕ) (o : Option Formed) → has_place (OfAct u) (told.committing k o t.members) ≡ false
+      no_act : (u : ℕ) (o : Option Formed) → has_its_place (OfAct u) (told.committing k o t.members) ≡ false
       no_act u None = refl
-      no_act u (Some b) = by (has_place (OfBatch k) t.members)
+      no_act u (Some b) = by (has_its_place (OfBatch k) t.members)
         where
-          by : (c : Bool) → has_place (OfAct u) (if c then [] else map (told.pact_member k) b.pacts) ≡ false
+          by : (c : Bool) → has_its_place (OfAct u) (if c then [] else map (told.pact_member k) b.pacts) ≡ false
           by true = refl
           by false = pacts_no_act u k b.pacts
 
       none_more : (o : Option Formed) → count (λ m. is_act_who m.who) (told.committing k o t.members) ≡ 0
       none_more None = refl
-      none_more (Some b) = by (has_place (OfBatch k) t.members)
+      none_more (Some b) = by (has_its_place (OfBatch k) t.members)
         where
           by : (c : Bool) → count (λ m. is_act_who m.who) (if c then [] else map (told.pact_member k) b.pacts) ≡ 0
           by true = refl
@@ -91,7 +91,7 @@ module _ {C : Type 0} (w : Fixed C) (fr : Frames C) where
           by true e r = absurd (true≢false (sym (q.0 k (sym (is_who_true (OfBatch k) d.who e))).kept ∙ not_kept))
           by false e r = r
 
-      absent : has_place (OfBatch k) t.members ≡ false
+      absent : has_its_place (OfBatch k) t.members ≡ false
       absent = place_same (OfBatch k) t.members h.committed g.members ∙ nobody h.committed f.from
 
   pub deciding_kept : (Of : Tx → C → Type 0) (finish : C → List State → Alone) (u : ℕ) (s : Machine C) (h : History) (t : Seen) → IsAllowed w (Decide u) s → SimFacts w Of finish s h → TellsNames w s t → Tells w s h t
@@ -102,7 +102,7 @@ module _ {C : Type 0} (w : Fixed C) (fr : Frames C) where
       let x = (was_live w fr) u s.book.acts live in
       let b = act_pair u x.0 t.acts s.book.acts n.tids n.txs n.readers x.1.0 in
       let i : (b.0).tid ≡ u = (b.1.1).tid ∙ (found_tid w fr) u s.book.acts x.0 x.1.0 in
-      let absent : has_place (OfAct (b.0).tid) t.members ≡ false = ap (λ (z : ℕ). has_place (OfAct z) t.members) i ∙ (g.ordered u ∙ (ap (holds (λ (z : Act). is_ordered z.status)) x.1.0 ∙ unordered (x.0).status x.1.1)) in
+      let absent : has_its_place (OfAct (b.0).tid) t.members ≡ false = ap (λ (z : ℕ). has_its_place (OfAct z) t.members) i ∙ (g.ordered u ∙ (ap (holds (λ (z : Act). is_ordered z.status)) x.1.0 ∙ unordered (x.0).status x.1.1)) in
       let new : told.deciding w.text (act_in u t.acts) t ≡ told.act_member w.text t b.0 ∷ [] =
       ap (λ (o : Option Begun). told.deciding w.text o t) b.1.0 ∙ ap (λ (c : Bool). if c then [] else told.act_member w.text t b.0 ∷ []) absent in
       let place : act_place (greatest (t.before (b.0).tid)) (next_c w.text t) ≡ act_place (x.0).m s.book.next_c =
@@ -123,7 +123,7 @@ module _ {C : Type 0} (w : Fixed C) (fr : Frames C) where
         gains = g.gains;
         dooms = λ v. g.dooms v ∙ sym (doomed_decided u s.book.next_c v s.book.acts);
         ordered = λ v.
-            ap (λ (ms : List Member). has_place (OfAct v) (t.members ++ ms)) new
+            ap (λ (ms : List Member). has_its_place (OfAct v) (t.members ++ ms)) new
             ∙ (place_join (OfAct v) t.members (told.act_member w.text t b.0 ∷ [])
             ∙ (ap (λ (c : Bool). c || (is_who (OfAct v) (OfAct (b.0).tid) || false)) (g.ordered v)
             ∙ (ap (λ (c : Bool). status_at is_ordered s.book.acts v || c) (or_false (v == (b.0).tid) ∙ (ap (λ (z : ℕ). v == z) i ∙ eqb_turned u v (u == v) refl)) ∙ sym (ordered_decided u s.book.next_c v s.book.acts live))));
@@ -149,8 +149,8 @@ module _ {C : Type 0} (w : Fixed C) (fr : Frames C) where
   aborting_kept Of finish k s h t f n g =
       let cause = book.failed_tx (book.why k s.desk) in
       let acts = map (book.cascaded k cause) s.book.acts in
-      let dooms : (u : ℕ) → is_given_up (t.dooms ++ taken_by k t) u ≡ doomed_at acts u =
-      λ u. given_join u t.dooms (taken_by k t) ∙ (ap (λ (b : Bool). b || is_given_up (taken_by k t) u) (g.dooms u) ∙ (ap (λ (b : Bool). doomed_at s.book.acts u || b) (taken u) ∙ sym (doomed_cascaded k cause u s.book.acts))) in
+      let dooms : (u : ℕ) → was_given_up (t.dooms ++ taken_by k t) u ≡ doomed_at acts u =
+      λ u. given_join u t.dooms (taken_by k t) ∙ (ap (λ (b : Bool). b || was_given_up (taken_by k t) u) (g.dooms u) ∙ (ap (λ (b : Bool). doomed_at s.book.acts u || b) (taken u) ∙ sym (doomed_cascaded k cause u s.book.acts))) in
       record {
         placed = g.placed;
         beyond = g.beyond;
@@ -173,7 +173,7 @@ module _ {C : Type 0} (w : Fixed C) (fr : Frames C) where
         where
           alive : is_live t u ≡ is_live_status x.status
           alive =
-              ap (λ (b : Bool). not b && not (has_place (OfAct u) t.members)) (g.dooms u ∙ ap (holds (λ (z : Act). is_doomed z.status)) e)
+              ap (λ (b : Bool). not b && not (has_its_place (OfAct u) t.members)) (g.dooms u ∙ ap (holds (λ (z : Act). is_doomed z.status)) e)
               ∙ (ap (λ (b : Bool). not (is_doomed x.status) && not b) (g.ordered u ∙ ap (holds (λ (z : Act). is_ordered z.status)) e) ∙ live_is x.status)
 
           one : (b : Bool) → is_live_status x.status ≡ b → (is_live t u && nat_le k (greatest (t.before u))) ≡ (is_live_status x.status && nat_le k x.m)
@@ -183,7 +183,7 @@ module _ {C : Type 0} (w : Fixed C) (fr : Frames C) where
               (ap (λ (b : ℕ → List ℕ). greatest (b u)) g.before ∙ (ap (λ (z : ℕ). greatest (h.before z)) (sym ((found_tid w fr) u s.book.acts x e)) ∙ sym (f.stand.before_is_greatest u x e (live_not_doomed x.status l))))
           one false l = ap (λ (b : Bool). b && nat_le k (greatest (t.before u))) (alive ∙ l) ∙ sym (ap (λ (b : Bool). b && nat_le k x.m) l)
 
-      taken : (u : ℕ) → is_given_up (taken_by k t) u ≡ holds (λ (x : Act). is_live_status x.status && nat_le k x.m) (act_of u s.book.acts)
+      taken : (u : ℕ) → was_given_up (taken_by k t) u ≡ holds (λ (x : Act). is_live_status x.status && nat_le k x.m) (act_of u s.book.acts)
       taken u =
           given_made u (λ (x : Begun). record { tid = x.tid; why = Taken k }) (λ (v : ℕ). is_live t v && nat_le k (greatest (t.before v))) t.acts (λ x. refl)
           ∙ (ap (λ (ns : List ℕ). is_among u ns && (is_live t u && nat_le k (greatest (t.before u)))) n.tids

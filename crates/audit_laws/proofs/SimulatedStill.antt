@@ -15,7 +15,7 @@ use Rattle.protocol.specs.Parts.{Machine, Ring, Status, Who}
 use Rattle.protocol.specs.Words.{is_among, is_doomed, is_ordered, who_of}
 use Rattle.protocol_laws.proofs.machine.PlaceLists.{batches_completed, batches_ran}
 use Rattle.audit_words.specs.Happenings.{added, with_begun}
-use Rattle.audit_words.specs.Seen.{Seen, is_batch}
+use Rattle.audit_words.specs.Seen.{Seen, was_formed}
 use Rattle.audit_laws.proofs.Acts.{more_acts, sealing, status_at, statuses_same}
 use Rattle.audit_laws.proofs.NamesSeen.{Frames}
 use Rattle.audit_laws.proofs.Simulated.{EachSame, Tells}
@@ -139,7 +139,7 @@ module _ {C : Type 0} (w : Fixed C) (fr : Frames C) where
   still r (Trim k b) s h t q g = absurd (true≢false (sym q))
   still r (Form k) s h t q g = again w s h t t.ring _ t.settled t.ran g
   still r (Run v b) s h t q g = again w s h t t.ring t.batches t.settled _ g
-  still r (Settle k) s h t q g = by (is_batch k t && not (is_among k t.settled))
+  still r (Settle k) s h t q g = by (was_formed k t && not (is_among k t.settled))
     where
       by : (b : Bool) → Tells w s h (if b then record t { settled = t.settled ++ k ∷ [] } else t)
       by true = again w s h t t.ring t.batches _ t.ran g

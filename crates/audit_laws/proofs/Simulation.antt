@@ -17,7 +17,7 @@ use Rattle.protocol.specs.Rivals.{Lock}
 use Rattle.protocol.specs.Runs.{opening, new_cell, reached, state_after, EachAllowed, IsRun}
 use Rattle.protocol.specs.Words.{is_among, least_older, who_of}
 use Rattle.audit_words.specs.Happenings as told
-use Rattle.audit_words.specs.Happenings.{added, cross_out, give_up, happened, met, taken_by, with_batch, with_cut}
+use Rattle.audit_words.specs.Happenings.{added, cross_out, give_up, happened, met, taken_by, batch_placed_last, with_cut}
 use Rattle.audit_words.specs.Seen.{Member, Seen, nothing_seen}
 use Rattle.audit_words.specs.Beside.{EachTold, TellsPlaced}
 use Rattle.audit_laws.specs.Names.{TellsNames}
@@ -38,7 +38,7 @@ module _ {C : Type 0} (w : Fixed C) (fr : Frames C) where
   unfolding added
   told_kept Of finish (Admit v) s h t ok f n g = (admitting_kept w fr) v (next_act t.ring) s h t g
   told_kept Of finish (Arrive k a) s h t ok f n g =
-      subst (λ (b : Bool). Tells w (after w (Arrive k a) s) (grown w (Arrive k a) s h) (if b then cross_out a (with_batch k a t) else t)) (sym ((comes_told w fr) Of finish k a s h t ok f n g)) ((arriving_kept w fr) Of finish k a s h t ok f n g)
+      subst (λ (b : Bool). Tells w (after w (Arrive k a) s) (grown w (Arrive k a) s h) (if b then cross_out a (batch_placed_last k a t) else t)) (sym ((comes_told w fr) Of finish k a s h t ok f n g)) ((arriving_kept w fr) Of finish k a s h t ok f n g)
   told_kept Of finish (Ask u a) s h t ok f n g =
       subst (λ (b : Bool). Tells w (after w (Ask u a) s) (grown w (Ask u a) s h) (if b then told.asks u a (least_older u (met u a t)) t else t)) (sym ((may_told w fr) Of finish u a s h t ok f n g))
       (subst (λ (zs : List Lock). Tells w (after w (Ask u a) s) (grown w (Ask u a) s h) (told.asks u a (least_older u zs) t)) (sym ((met_told w fr) Of finish u a s h t f n g)) ((asking_kept w fr) Of finish u a s h t ok f n g))

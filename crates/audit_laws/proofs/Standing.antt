@@ -17,12 +17,12 @@ use Rattle.protocol_laws.proofs.first.Agree.{agree, agree_is}
 use Rattle.protocol_laws.proofs.machine.ReadersKept.{LockOf}
 use Rattle.protocol_laws.proofs.machine.TrackLists.{is_who_sym}
 use Rattle.protocol_theorems.specs.Placed.{is_placed}
-use Rattle.audit_words.specs.Happenings.{stays}
-use Rattle.audit_words.specs.Seen.{Begun, Cut, act_in, acts_among, batch_in, goes_to, is_cut_off, is_there, lock_in, tail_behind}
+use Rattle.audit_words.specs.Happenings.{uncut_entries}
+use Rattle.audit_words.specs.Seen.{Begun, Cut, act_in, acts_among, batch_in, goes_to, was_taken_along, is_one_of_these, lock_in, tail_behind}
 
 -- ---- names
 
-pub cut_same : (k : ℕ) (cuts : List Cut) (cs : List Cascade) → map (λ c. c.first) cuts ≡ map (λ c. c.first) cs → map (λ c. c.upto) cuts ≡ map (λ c. c.upto) cs → is_cut_off k cuts ≡ is_aborted k cs
+pub cut_same : (k : ℕ) (cuts : List Cut) (cs : List Cascade) → map (λ c. c.first) cuts ≡ map (λ c. c.first) cs → map (λ c. c.upto) cuts ≡ map (λ c. c.upto) cs → was_taken_along k cuts ≡ is_aborted k cs
 cut_same k [] [] e f = refl
 cut_same k [] (c ∷ cs) e f = absurd (cc e)
 cut_same k (x ∷ cuts) [] e f = absurd (cc e)
@@ -31,8 +31,8 @@ cut_same k (x ∷ cuts) (c ∷ cs) e f =
     let j : map (λ (y : Cut). y.first) cuts ≡ map (λ (y : Cascade). y.first) cs = cc e in
     let u : x.upto ≡ c.upto = cc f in
     let v : map (λ (y : Cut). y.upto) cuts ≡ map (λ (y : Cascade). y.upto) cs = cc f in
-    ap (λ (n : ℕ). (nat_le n k && nat_le k x.upto) || is_cut_off k cuts) i
-    ∙ (ap (λ (n : ℕ). (nat_le c.first k && nat_le k n) || is_cut_off k cuts) u ∙ ap (λ (b : Bool). covers k c || b) (cut_same k cuts cs j v))
+    ap (λ (n : ℕ). (nat_le n k && nat_le k x.upto) || was_taken_along k cuts) i
+    ∙ (ap (λ (n : ℕ). (nat_le c.first k && nat_le k n) || was_taken_along k cuts) u ∙ ap (λ (b : Bool). covers k c || b) (cut_same k cuts cs j v))
 
 actor_among : (a : ℕ) (ps : List Declared) → is_among a (map (λ p. p.actor) ps) ≡ is_some (find (λ p. p.actor == a) ps)
 actor_among a [] = refl
@@ -84,14 +84,14 @@ lock_same u bs xs e f = ap (lock u) (readers_same u bs xs e f)
 same_eq : (a b : ℕ) → (a == b) ≡ (b == a)
 same_eq a b = sym (eqb_turned a b (a == b) refl)
 
-pub there_same : (t : ℕ) (es : List Entry) → is_there (OfAct t) (map who_of es) ≡ has_act t es
+pub there_same : (t : ℕ) (es : List Entry) → is_one_of_these (OfAct t) (map who_of es) ≡ has_act t es
 there_same t [] = refl
 there_same t (BatchEntry b ∷ es) = there_same t es
-there_same t (ActEntry x ∷ es) = ap (λ (c : Bool). c || is_there (OfAct t) (map who_of es)) (same_eq t x.tid) ∙ ap (λ (c : Bool). (x.tid == t) || c) (there_same t es)
+there_same t (ActEntry x ∷ es) = ap (λ (c : Bool). c || is_one_of_these (OfAct t) (map who_of es)) (same_eq t x.tid) ∙ ap (λ (c : Bool). (x.tid == t) || c) (there_same t es)
 
-pub there_placed : (who : Who) (ws : List Who) → is_there who ws ≡ is_placed who ws
+pub there_placed : (who : Who) (ws : List Who) → is_one_of_these who ws ≡ is_placed who ws
 there_placed who [] = refl
-there_placed who (y ∷ ws) = ap (λ (c : Bool). c || is_there who ws) (is_who_sym who y) ∙ ap (λ (c : Bool). is_who y who || c) (there_placed who ws)
+there_placed who (y ∷ ws) = ap (λ (c : Bool). c || is_one_of_these who ws) (is_who_sym who y) ∙ ap (λ (c : Bool). is_who y who || c) (there_placed who ws)
 
 pub acts_same : (es : List Entry) → acts_among (map who_of es) ≡ tids_on es
 acts_same [] = refl
@@ -148,22 +148,22 @@ pub is_batch_of : (k : ℕ) (e : Entry) → is_who (who_of e) (OfBatch k) ≡ is
 is_batch_of k (BatchEntry b) = refl
 is_batch_of k (ActEntry x) = refl
 
-all_gone : (cuts : List Cut) (cs : List Cascade) (es : List Entry) → ((k : ℕ) → is_cut_off k cuts ≡ is_aborted k cs) → AllByRecursion (λ k. is_aborted k cs ≡ true) (batches_on es) → stays true cuts (map who_of es) ≡ []
+all_gone : (cuts : List Cut) (cs : List Cascade) (es : List Entry) → ((k : ℕ) → was_taken_along k cuts ≡ is_aborted k cs) → AllByRecursion (λ k. is_aborted k cs ≡ true) (batches_on es) → uncut_entries true cuts (map who_of es) ≡ []
 all_gone cuts cs [] c h = refl
-all_gone cuts cs (BatchEntry b ∷ es) c h = ap (λ (q : Bool). if q then stays true cuts (map who_of es) else OfBatch b.bid ∷ stays true cuts (map who_of es)) (c b.bid ∙ h.0) ∙ all_gone cuts cs es c h.1
+all_gone cuts cs (BatchEntry b ∷ es) c h = ap (λ (q : Bool). if q then uncut_entries true cuts (map who_of es) else OfBatch b.bid ∷ uncut_entries true cuts (map who_of es)) (c b.bid ∙ h.0) ∙ all_gone cuts cs es c h.1
 all_gone cuts cs (ActEntry x ∷ es) c h = all_gone cuts cs es c h
 
 later_gone : (first j : ℕ) (cs : List Cascade) (ks : List ℕ) → nat_le first j ≡ true → AllByRecursion (λ k. j < k) ks → AllByRecursion (λ k. is_aborted k cs ≡ nat_le first k) ks → AllByRecursion (λ k. is_aborted k cs ≡ true) ks
 later_gone first j cs [] l a h = tt
 later_gone first j cs (k ∷ ks) l a h = (h.0 ∙ Rattle.std.proofs.lemmas.Bool.le-leb first k (omega (arith, leb-true first j l, a.0)), later_gone first j cs ks l a.1 h.1)
 
-pub rolled_same : (cuts : List Cut) (cs : List Cascade) (first : ℕ) (es : List Entry) → ((k : ℕ) → is_cut_off k cuts ≡ is_aborted k cs) → AreAbortedFrom first cs es → Ascends (batches_on es) → stays false cuts (map who_of es) ≡ map who_of (staying cs es)
+pub rolled_same : (cuts : List Cut) (cs : List Cascade) (first : ℕ) (es : List Entry) → ((k : ℕ) → was_taken_along k cuts ≡ is_aborted k cs) → AreAbortedFrom first cs es → Ascends (batches_on es) → uncut_entries false cuts (map who_of es) ≡ map who_of (staying cs es)
 rolled_same cuts cs first [] c h a = refl
 rolled_same cuts cs first (BatchEntry b ∷ es) c h a =
-    ap (λ (q : Bool). if q then stays true cuts (map who_of es) else OfBatch b.bid ∷ stays false cuts (map who_of es)) (c b.bid) ∙ by (is_aborted b.bid cs) refl (rolled_same cuts cs first es c h.1 a.1)
+    ap (λ (q : Bool). if q then uncut_entries true cuts (map who_of es) else OfBatch b.bid ∷ uncut_entries false cuts (map who_of es)) (c b.bid) ∙ by (is_aborted b.bid cs) refl (rolled_same cuts cs first es c h.1 a.1)
   where
-    by : (q : Bool) → is_aborted b.bid cs ≡ q → stays false cuts (map who_of es) ≡ map who_of (staying cs es)
-        → (if q then stays true cuts (map who_of es) else OfBatch b.bid ∷ stays false cuts (map who_of es)) ≡ map who_of (if q then [] else BatchEntry b ∷ staying cs es)
+    by : (q : Bool) → is_aborted b.bid cs ≡ q → uncut_entries false cuts (map who_of es) ≡ map who_of (staying cs es)
+        → (if q then uncut_entries true cuts (map who_of es) else OfBatch b.bid ∷ uncut_entries false cuts (map who_of es)) ≡ map who_of (if q then [] else BatchEntry b ∷ staying cs es)
     by true e r = all_gone cuts cs es c (later_gone first b.bid cs (batches_on es) (sym h.0 ∙ e) a.0 h.1)
     by false e r = ap (λ (zs : List Who). OfBatch b.bid ∷ zs) r
 rolled_same cuts cs first (ActEntry x ∷ es) c h a = ap (λ (zs : List Who). OfAct x.tid ∷ zs) (rolled_same cuts cs first es c h a)

@@ -24,17 +24,17 @@ abbrev pub IsHalfAudited : {C : Type 0} → Fixed C → (C → List State → Al
 IsHalfAudited w finish es = IsQuiet w (reached w es) → Half w finish es
 
 -- places, and their order
-pub record Places {C : Type 0} (w : Fixed C) (es : List Event) : Type 0 where
+pub record TellsPlacesInOrder {C : Type 0} (w : Fixed C) (es : List Event) : Type 0 where
   pub places : EachLine (TellsPlace (seen w.code.only_reads w.text es)) [] (report_lines w es)
   pub order : EachLine (TellsOrder (seen w.code.only_reads w.text es)) [] (report_lines w es)
 
 -- where the events tell who was placed and who has its place as the history has it
 abbrev pub HasPlacesWhereTold : {C : Type 0} → Fixed C → List Event → Type 0
-HasPlacesWhereTold w es = IsQuiet w (reached w es) → TellsPlaced w.text (history w es) (seen w.code.only_reads w.text es) → Places w es
+HasPlacesWhereTold w es = IsQuiet w (reached w es) → TellsPlaced w.text (history w es) (seen w.code.only_reads w.text es) → TellsPlacesInOrder w es
 
 -- in all
 abbrev pub HasPlaces : {C : Type 0} → Fixed C → List Event → Type 0
-HasPlaces w es = IsQuiet w (reached w es) → Places w es
+HasPlaces w es = IsQuiet w (reached w es) → TellsPlacesInOrder w es
 
 -- the clauses 1 to 5 of the papers of a run
 pub record UpToEvidence {C : Type 0} (w : Fixed C) (finish : C → List State → Alone) (es : List Event) : Type 0 where

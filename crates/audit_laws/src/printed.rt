@@ -4,7 +4,7 @@ ghost use Rattle.std.specs.List.{AllByRecursion, flat_map};
 ghost use Rattle.protocol.specs.Events.{Event};
 ghost use Rattle.protocol.specs.Fixed.{Fixed};
 ghost use Rattle.run_effects.specs.Lines.{report_text};
-ghost use Rattle.audit_words.specs.Papers.{IsForm, IsReport, Line, ended, line_text};
+ghost use Rattle.audit_words.specs.Papers.{IsWellFormedLine, IsReport, Line, ended, line_text};
 ghost use Rattle.audit_words.specs.Reports.{report_lines};
 
 /// What a run prints is the text of its report's lines, each with its line feed.
@@ -14,5 +14,5 @@ pub fn reports_are_lines<C>()
 
 /// Lines of a form, each printed with its line feed, are a report of these lines.
 pub fn printed_forms_are_reports()
-    ensures { (ls : List Line) → AllByRecursion IsForm ls → IsReport (flat_map (λ l. ended (line_text l)) ls) ls }
+    ensures { (ls : List Line) → AllByRecursion IsWellFormedLine ls → IsReport (flat_map (λ l. ended (line_text l)) ls) ls }
 {}

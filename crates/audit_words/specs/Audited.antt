@@ -12,17 +12,17 @@ use Rattle.audit_words.specs.Clauses.{Language, MayFollow, TellsPlace, TellsMean
 -- ---- the first clause: events
 
 -- the conditions of the coordinators' events, read on the ring alone
-abbrev pub on_ring : Text → Event → Ring → List Bool
-on_ring w (Submit n) r = is_next_to_submit n w r ∷ []
-on_ring w (Pass c) r = (c == next_holder w r) ∷ is_idle_at r.holder r ∷ not (is_idle r) ∷ []
-on_ring w (Form k) r = (k == r.next_bid) ∷ not (lacks_pacts r) ∷ []
-on_ring w (Admit t) r = (t == r.next_tid) ∷ not (lacks_acts r) ∷ []
-on_ring w _ r = []
+abbrev pub ring_conditions : Text → Event → Ring → List Bool
+ring_conditions w (Submit n) r = is_next_to_submit n w r ∷ []
+ring_conditions w (Pass c) r = (c == next_holder w r) ∷ is_idle_at r.holder r ∷ not (is_idle r) ∷ []
+ring_conditions w (Form k) r = (k == r.next_bid) ∷ not (lacks_pacts r) ∷ []
+ring_conditions w (Admit t) r = (t == r.next_tid) ∷ not (lacks_acts r) ∷ []
+ring_conditions w _ r = []
 
 -- each event meets its conditions on the ring that the ones before it leave
 abbrev pub EachMeets : Text → List Event → Ring → Type 0
 EachMeets w [] r = ⊤
-EachMeets w (e ∷ es) r = AllTrue (on_ring w e r) × EachMeets w es (ring_after w e r)
+EachMeets w (e ∷ es) r = AllTrue (ring_conditions w e r) × EachMeets w es (ring_after w e r)
 
 -- the ring behind some events
 abbrev pub ring_behind : Text → List Event → Ring → Ring
@@ -37,7 +37,7 @@ pub record IsFirstNotMet (w : Text) (es : List Event) (at : ℕ) : Type 0 where
   pub splits : es ≡ front ++ event ∷ rest
   pub number : at ≡ length front
   pub before : EachMeets w front (first_ring w)
-  pub off : ¬ AllTrue (on_ring w event (ring_behind w front (first_ring w)))
+  pub off : ¬ AllTrue (ring_conditions w event (ring_behind w front (first_ring w)))
 
 -- ---- the others: lines
 

@@ -1,5 +1,5 @@
 -- What each line of a report has to say, beside the lines before it, by what the events tell and by what the language means.
-use Rattle.std.specs.Prelude.{◌≡◌, ◌≢◌, ℕ, ◌+◌, ◌==◌, ◌<◌, ◌≤◌, nat_lt, nat_le, Bool, true, false, not, ◌&&◌, ◌||◌, ◌⊎◌, if◌then◌else◌, ⊤}
+use Rattle.std.specs.Prelude.{◌≡◌, ◌≢◌, ℕ, ◌+◌, ◌==◌, ◌<◌, ◌≤◌, nat_le, Bool, true, false, not, ◌&&◌, ◌||◌, ◌⊎◌, if◌then◌else◌, ⊤}
 use Rattle.std.specs.Prelude.{Option, Some, None, List, [], ◌∷◌, ◌++◌, length, map, filter, find}
 use Rattle.std.specs.List.{AllByRecursion, list_any}
 use Rattle.snap_base.specs.declared.transactions.State.{State}
@@ -18,8 +18,8 @@ use Rattle.protocol.specs.OnRing.{Formed}
 use Rattle.protocol.specs.Words.{is_value, count}
 use Rattle.protocol.specs.Report.{is_committed}
 use Rattle.protocol.specs.History.{Done}
-use Rattle.protocol.specs.Chains.{by_place}
-use Rattle.audit_words.specs.Seen.{Begun, Why, Older, Crossed, Taken, Member, Seen, batch_in, doom_of}
+use Rattle.protocol.specs.Chains.{by_place, counts}
+use Rattle.audit_words.specs.Seen.{Begun, Why, Older, Crossed, Taken, Member, Seen, batch_in, first_doom}
 use Rattle.audit_words.specs.Orders.{seen_history, RiseTo}
 use Rattle.audit_words.specs.Papers.{Line, Reply, Actor, End, Kept, Recovered}
 
@@ -64,7 +64,7 @@ IsNotBelow (OfBatch k) (OfAct t) = ⊤
 IsNotBelow (OfAct t) other = ⊤
 
 -- Transaction n has this place; and no smaller batch committed after its own.
-pub record HasPlace (n : ℕ) (p : Place) (members : List Member) : Type 0 where
+pub record IsPlacedAt (n : ℕ) (p : Place) (members : List Member) : Type 0 where
   pub member : Member
   pub front : List Member
   pub rest : List Member
@@ -75,8 +75,8 @@ pub record HasPlace (n : ℕ) (p : Place) (members : List Member) : Type 0 where
 
 -- who is told a place has it; and only an ACT fails there
 abbrev pub TellsPlace : Seen → List Line → Line → Type 0
-TellsPlace s front (Reply n (verdicts.Committed p v)) = HasPlace n p s.members
-TellsPlace s front (Reply n (verdicts.Code p code)) = (p.side ≡ 1) × HasPlace n p s.members
+TellsPlace s front (Reply n (verdicts.Committed p v)) = IsPlacedAt n p s.members
+TellsPlace s front (Reply n (verdicts.Code p code)) = (p.side ≡ 1) × IsPlacedAt n p s.members
 TellsPlace s front _ = ⊤
 
 -- ---- what the language means
@@ -120,18 +120,18 @@ located (Reply n v ∷ ls) = located_by n v ++ located ls
 located (_ ∷ ls) = located ls
 
 -- a committed one leaves what it leaves alone; who fails leaves nothing
-abbrev pub world_after : Meaning → Text → List State → Done → List State
-world_after m w world d = if is_value d.result then (m world (tx_at w d.tx)).world else world
+abbrev pub world_left_by : Meaning → Text → List State → Done → List State
+world_left_by m w world d = if is_value d.result then (m world (tx_at w d.tx)).world else world
 
 -- the states behind all of these
 abbrev pub world_behind : Meaning → Text → List State → List Done → List State
 world_behind m w world [] = world
-world_behind m w world (d ∷ ds) = world_behind m w (world_after m w world d) ds
+world_behind m w world (d ∷ ds) = world_behind m w (world_left_by m w world d) ds
 
 -- what each of them gives alone, behind those committed before it
 abbrev pub given : Meaning → Text → List State → List Done → List (ℕ × TxResult)
 given m w world [] = []
-given m w world (d ∷ ds) = (d.tx, (m world (tx_at w d.tx)).result) ∷ given m w (world_after m w world d) ds
+given m w world (d ∷ ds) = (d.tx, (m world (tx_at w d.tx)).result) ∷ given m w (world_left_by m w world d) ds
 
 -- what is given to transaction n
 abbrev pub given_to : ℕ → List (ℕ × TxResult) → Option TxResult
@@ -162,13 +162,9 @@ TellsOrder s front _ = ⊤
 
 -- ---- evidence
 
--- those committed of the batches below k, and the committed ACTs with a number below c
-abbrev pub counts : ℕ → ℕ → Done → Bool
-counts k c d = is_value d.result && (if d.place.side == 0 then nat_lt d.place.batch.0 k else nat_lt d.place.order c)
-
 -- the states that these leave, one by one in the order of their places
-abbrev pub world_before : Meaning → Text → ℕ → ℕ → List Line → List State
-world_before m w k c ls = (serial m w.opening.states (map (λ d. tx_at w d.tx) (filter (counts k c) (by_place (located ls))))).world
+abbrev pub world_left_below : Meaning → Text → ℕ → ℕ → List Line → List State
+world_left_below m w k c ls = (serial m w.opening.states (map (λ d. tx_at w d.tx) (filter (counts k c) (by_place (located ls))))).world
 
 -- all but the last are values, and that is this failure
 pub record FailsLast (code : ℕ) (results : List TxResult) : Type 0 where
@@ -187,17 +183,17 @@ pub record FailsItsBatch (m : Meaning) (w : Text) (s : Seen) (ls : List Line) (n
   pub found : batch_in k s.batches ≡ Some batch
   pub splits : batch.pacts ≡ front ++ pact ∷ rest
   pub tx : pact.tx ≡ n
-  pub fails : FailsLast code (serial m (world_before m w k c ls) (map (λ q. tx_at w q.tx) (front ++ pact ∷ []))).results
+  pub fails : FailsLast code (serial m (world_left_below m w k c ls) (map (λ q. tx_at w q.tx) (front ++ pact ∷ []))).results
 
 -- transaction n is an ACT, and first given up so
-pub record IsGivenUp (s : Seen) (n : ℕ) (why : Why) : Type 0 where
+pub record IsGivenUpFor (s : Seen) (n : ℕ) (why : Why) : Type 0 where
   pub act : Begun
   pub found : find (λ x. x.tx == n) s.acts ≡ Some act
-  pub doom : doom_of act.tid s.dooms ≡ Some (record { tid = act.tid; why = why })
+  pub doom : first_doom act.tid s.dooms ≡ Some (record { tid = act.tid; why = why })
 
 -- transaction n is an ACT that died on an actor, with this tid
-pub record Dies (s : Seen) (n a older own : ℕ) : Type 0 where
-  pub given_up : IsGivenUp s n (Older a older)
+pub record HasDied (s : Seen) (n a older own : ℕ) : Type 0 where
+  pub given_up : IsGivenUpFor s n (Older a older)
   pub own_tid : given_up.act.tid ≡ own
 
 -- the batch of transaction n was formed before batch k was aborted, and is not below it
@@ -214,12 +210,12 @@ tells_batch_code n k _ = false
 -- Transaction `by` is told that batch k failed with it, and that cascade took transaction n along.
 pub record IsTakenAlong (s : Seen) (ls : List Line) (n k by : ℕ) : Type 0 where
   pub told : list_any (tells_batch_code by k) ls ≡ true
-  pub taken : (IsTakenPact s n k × (n ≢ by)) ⊎ IsGivenUp s n (Taken k)
+  pub taken : (IsTakenPact s n k × (n ≢ by)) ⊎ IsGivenUpFor s n (Taken k)
 
 -- whoever is told that it was aborted has its evidence in the events
 abbrev pub TellsEvidence : Meaning → Text → Seen → List Line → List Line → Line → Type 0
 TellsEvidence m w s ls front (Reply n (verdicts.BatchCode k at code)) = FailsItsBatch m w s ls n k.0 at code
 TellsEvidence m w s ls front (Reply n (verdicts.Cascade k by)) = IsTakenAlong s ls n k.0 by.0
-TellsEvidence m w s ls front (Reply n (verdicts.Died a older own)) = Dies s n a.0 older.0 own.0
-TellsEvidence m w s ls front (Reply n (verdicts.Order before behind a)) = IsGivenUp s n (Crossed before.0 behind.0 a.0)
+TellsEvidence m w s ls front (Reply n (verdicts.Died a older own)) = HasDied s n a.0 older.0 own.0
+TellsEvidence m w s ls front (Reply n (verdicts.Order before behind a)) = IsGivenUpFor s n (Crossed before.0 behind.0 a.0)
 TellsEvidence m w s ls front _ = ⊤

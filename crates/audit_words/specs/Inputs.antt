@@ -60,24 +60,24 @@ pub record IsInOrder (input : List ℕ) : Type 0 where
 
 -- ---- what is wrong with any other
 
-pub data Fault : Type 0 where
+pub data InputFault : Type 0 where
   -- a divider is lacking
-  Parts : Fault
+  Parts : InputFault
   -- the text stands for no work
-  Text : WorkFault → Fault
+  Text : WorkFault → InputFault
   -- this line of the trace, from 1 on, is no event
-  Trace : (line : ℕ) → Fault
+  Trace : (line : ℕ) → InputFault
   -- this line of the report, from 1 on, is of no form
-  Report : (line : ℕ) → Fault
+  Report : (line : ℕ) → InputFault
   -- this clause is false: the first clause at an event, from 0 on, the others at a line of the report, from 1 on
-  Clause : (clause : ℕ) (at : ℕ) → Fault
+  Clause : (clause : ℕ) (at : ℕ) → InputFault
 
 -- the input has parts, of which P holds
 abbrev pub HasParts : List ℕ → (List ℕ → List ℕ → List ℕ → Type 0) → Type 0
 HasParts input P = (text : List ℕ) × ((trace : List ℕ) × ((report : List ℕ) × (AreParts input text trace report × P text trace report)))
 
 -- It is the first fault: what is asked before it holds.
-abbrev pub IsFirstFault : List ℕ → Fault → Type 0
+abbrev pub IsFirstFault : List ℕ → InputFault → Type 0
 IsFirstFault input Parts = LacksDivider input
 IsFirstFault input (Text f) = HasParts input (λ text trace report. IsFirstWorkFault text f)
 IsFirstFault input (Trace line) = HasParts input (λ text trace report. (w : Work) × (IsWork text w × IsFirstNoEvent trace line))

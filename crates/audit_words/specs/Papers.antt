@@ -30,14 +30,14 @@ abbrev pub AreWhole : List ℕ → Type 0
 AreWhole bytes = (bytes ≡ []) ⊎ ((front : List ℕ) × (bytes ≡ ended front))
 
 -- behind the divider; where that is the last line of the input and lacks its line feed, nothing
-abbrev pub IsBehind : List ℕ → List ℕ → List ℕ → Type 0
-IsBehind divider rest part = (rest ≡ ended divider ++ part) ⊎ ((rest ≡ divider) × (part ≡ []))
+abbrev pub IsBehindDivider : List ℕ → List ℕ → List ℕ → Type 0
+IsBehindDivider divider rest part = (rest ≡ ended divider ++ part) ⊎ ((rest ≡ divider) × (part ≡ []))
 
 -- The last line that is the divider cuts the text: what stands before it is whole lines, and behind it there is no such line.
 pub record IsCutAt (divider text front part : List ℕ) : Type 0 where
   pub rest : List ℕ
   pub splits : text ≡ front ++ rest
-  pub behind : IsBehind divider rest part
+  pub behind : IsBehindDivider divider rest part
   pub whole : AreWhole front
   pub last : ¬ Contains (lines part) divider
 
@@ -76,13 +76,13 @@ line_text (Recovered x y t k c) =
     codes "recovered batches " ++ (decimal x ++ (codes " acts " ++ (decimal y ++ (codes " next " ++ (decimal t ++ (codes " " ++ (decimal k ++ (codes " " ++ decimal c))))))))
 
 -- its numbers have 64 bits, and its side has 8
-abbrev pub IsPlace : Place → Type 0
-IsPlace p = (p.batch.0 < 2 ^ 64) × (p.side < 2 ^ 8) × (p.order < 2 ^ 64)
+abbrev pub IsPlaceInRange : Place → Type 0
+IsPlaceInRange p = (p.batch.0 < 2 ^ 64) × (p.side < 2 ^ 8) × (p.order < 2 ^ 64)
 
 -- each number is one of its type
 abbrev pub IsVerdict : Verdict → Type 0
-IsVerdict (verdicts.Committed p v) = IsPlace p × FitsSigned w64 v
-IsVerdict (verdicts.Code p code) = IsPlace p × (code < 2 ^ 16)
+IsVerdict (verdicts.Committed p v) = IsPlaceInRange p × FitsSigned w64 v
+IsVerdict (verdicts.Code p code) = IsPlaceInRange p × (code < 2 ^ 16)
 IsVerdict (verdicts.BatchCode k at code) = (k.0 < 2 ^ 64) × (at < 2 ^ 64) × (code < 2 ^ 16)
 IsVerdict (verdicts.Cascade k by) = (k.0 < 2 ^ 64) × (by.0 < 2 ^ 32)
 IsVerdict (verdicts.Died a older own) = (a.0 < 2 ^ 16) × (older.0 < 2 ^ 64) × (own.0 < 2 ^ 64)
@@ -90,16 +90,16 @@ IsVerdict (verdicts.Order m n a) = (m.0 < 2 ^ 64) × (n.0 < 2 ^ 64) × (a.0 < 2 
 IsVerdict (verdicts.Unsure l) = l < 2 ^ 8
 
 -- A line of a form: its numbers are of their types, and an actor has one field or more, and no more than there are.
-abbrev pub IsForm : Line → Type 0
-IsForm (Reply n v) = (n < 2 ^ 32) × IsVerdict v
-IsForm (Actor a fields) = (a < 2 ^ 16) × (1 ≤ length fields) × (length fields ≤ FIELDS) × AllByRecursion (FitsSigned w64) fields
-IsForm (End x y z) = (x < 2 ^ 64) × (y < 2 ^ 64) × (z < 2 ^ 64)
-IsForm (Kept p v) = IsPlace p × IfSome v (FitsSigned w64)
-IsForm (Recovered x y t k c) = (x < 2 ^ 64) × (y < 2 ^ 64) × (t < 2 ^ 64) × (k < 2 ^ 64) × (c < 2 ^ 64)
+abbrev pub IsWellFormedLine : Line → Type 0
+IsWellFormedLine (Reply n v) = (n < 2 ^ 32) × IsVerdict v
+IsWellFormedLine (Actor a fields) = (a < 2 ^ 16) × (1 ≤ length fields) × (length fields ≤ FIELDS) × AllByRecursion (FitsSigned w64) fields
+IsWellFormedLine (End x y z) = (x < 2 ^ 64) × (y < 2 ^ 64) × (z < 2 ^ 64)
+IsWellFormedLine (Kept p v) = IsPlaceInRange p × IfSome v (FitsSigned w64)
+IsWellFormedLine (Recovered x y t k c) = (x < 2 ^ 64) × (y < 2 ^ 64) × (t < 2 ^ 64) × (k < 2 ^ 64) × (c < 2 ^ 64)
 
 -- the text has these lines, each of a form
 pub record IsReport (text : List ℕ) (ls : List Line) : Type 0 where
-  pub forms : AllByRecursion IsForm ls
+  pub forms : AllByRecursion IsWellFormedLine ls
   pub said : lines text ≡ map line_text ls
 
 -- the lines before this one, from 1 on, are of a form, and this one is of none
@@ -109,5 +109,5 @@ pub record IsFirstNoLine (text : List ℕ) (line : ℕ) : Type 0 where
   pub behind : List (List ℕ)
   pub cut : lines text ≡ map line_text before ++ none ∷ behind
   pub number : line ≡ length before + 1
-  pub forms : AllByRecursion IsForm before
-  pub no_form : (l : Line) → IsForm l → none ≢ line_text l
+  pub forms : AllByRecursion IsWellFormedLine before
+  pub no_form : (l : Line) → IsWellFormedLine l → none ≢ line_text l

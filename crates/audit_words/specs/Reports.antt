@@ -24,14 +24,14 @@ use Rattle.audit_words.specs.Audited.{Audited}
 -- ---- lines
 
 -- the reply to transaction n, where it has a verdict
-abbrev pub line_by : ℕ → Option Verdict → List Line
-line_by n None = []
-line_by n (Some v) = Reply n v ∷ []
+abbrev pub reply_line_of : ℕ → Option Verdict → List Line
+reply_line_of n None = []
+reply_line_of n (Some v) = Reply n v ∷ []
 
 -- the replies, in their order
 abbrev pub reply_lines : List Answer → List Line
 reply_lines [] = []
-reply_lines (x ∷ xs) = line_by x.tx x.verdict ++ reply_lines xs
+reply_lines (x ∷ xs) = reply_line_of x.tx x.verdict ++ reply_lines xs
 
 -- the actors from this number on
 abbrev pub actor_lines : ℕ → List State → List Line

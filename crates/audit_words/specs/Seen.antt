@@ -117,8 +117,8 @@ abbrev pub batch_in : ℕ → List Formed → Option Formed
 batch_in k batches = find (λ b. b.bid == k) batches
 
 -- the batch was formed
-abbrev pub is_batch : ℕ → Seen → Bool
-is_batch k s = is_some (batch_in k s.batches)
+abbrev pub was_formed : ℕ → Seen → Bool
+was_formed k s = is_some (batch_in k s.batches)
 
 -- a PACT of the batch declares the actor
 abbrev pub goes_to : ℕ → Option Formed → Bool
@@ -126,12 +126,12 @@ goes_to a None = false
 goes_to a (Some b) = is_among a b.actors
 
 -- a cascade took it along
-abbrev pub is_cut_off : ℕ → List Cut → Bool
-is_cut_off k cuts = list_any (λ c. nat_le c.first k && nat_le k c.upto) cuts
+abbrev pub was_taken_along : ℕ → List Cut → Bool
+was_taken_along k cuts = list_any (λ c. nat_le c.first k && nat_le k c.upto) cuts
 
 -- this one is among these
-abbrev pub is_there : Who → List Who → Bool
-is_there who ws = list_any (is_who who) ws
+abbrev pub is_one_of_these : Who → List Who → Bool
+is_one_of_these who ws = list_any (is_who who) ws
 
 -- ---- ACTs
 
@@ -140,28 +140,28 @@ abbrev pub act_in : ℕ → List Begun → Option Begun
 act_in t acts = find (λ x. x.tid == t) acts
 
 -- the ACT was admitted
-abbrev pub is_act : ℕ → Seen → Bool
-is_act t s = is_some (act_in t s.acts)
+abbrev pub was_admitted : ℕ → Seen → Bool
+was_admitted t s = is_some (act_in t s.acts)
 
 -- what an actor knows of an ACT: its tid, and whether it only reads
 abbrev pub lock_in : List Begun → ℕ → Lock
 lock_in acts t = record { tid = t; reader = holds (λ x. x.reader) (act_in t acts) }
 
 -- the first reason for which an ACT is given up
-abbrev pub doom_of : ℕ → List Doom → Option Doom
-doom_of t dooms = find (λ d. d.tid == t) dooms
+abbrev pub first_doom : ℕ → List Doom → Option Doom
+first_doom t dooms = find (λ d. d.tid == t) dooms
 
 -- the ACT is given up
-abbrev pub is_given_up : List Doom → ℕ → Bool
-is_given_up dooms t = is_some (doom_of t dooms)
+abbrev pub was_given_up : List Doom → ℕ → Bool
+was_given_up dooms t = is_some (first_doom t dooms)
 
 -- this one has its place
-abbrev pub has_place : Who → List Member → Bool
-has_place who members = list_any (λ m. is_who who m.who) members
+abbrev pub has_its_place : Who → List Member → Bool
+has_its_place who members = list_any (λ m. is_who who m.who) members
 
 -- the ACT is neither given up nor decided
 abbrev pub is_live : Seen → ℕ → Bool
-is_live s t = not (is_given_up s.dooms t) && not (has_place (OfAct t) s.members)
+is_live s t = not (was_given_up s.dooms t) && not (has_its_place (OfAct t) s.members)
 
 -- the ACTs among these
 abbrev pub acts_among : List Who → List ℕ
@@ -181,8 +181,8 @@ least [] = None
 least (k ∷ ks) = Some (least_of k (least ks))
 
 -- the ACT is live, and the greatest batch before it is not below the least behind it
-abbrev pub is_crossed : Seen → ℕ → Bool
-is_crossed s t = is_live s t && reaches (greatest (s.before t)) (least (s.behind t))
+abbrev pub was_crossed : Seen → ℕ → Bool
+was_crossed s t = is_live s t && reaches (greatest (s.before t)) (least (s.behind t))
 
 -- the number that the next Decide draws
 abbrev pub next_c : Text → Seen → ℕ

@@ -13,7 +13,7 @@ use Rattle.record_log.specs.RecordLogLaws.{OpenedHeld, ItemsAreRecords}
 use Rattle.snap_recover.specs.declared.causes.LogCause.TheVariants as cause
 use Rattle.log_opening.specs.declared.refusals.LogsNo.{LogsNo}
 use Rattle.log_opening.specs.declared.refusals.LogsNo.TheVariants as ending
-use Rattle.log_opening.specs.Devices.{Device, device_at, AreBegun, Begun, HoldNoOld}
+use Rattle.log_opening.specs.Devices.{Device, device_at, AreBegun, DeviceBegun, HoldNoOld}
 use Rattle.log_opening.specs.Found.{IsTouched, IsHandled, AreBegunOn, AreFound, IsHalted, no_of_opening, IsNoDecoding}
 use Rattle.log_opening.specs.Counted.{AreOpenWith, AreNotRead}
 use Rattle.log_opening.proofs.Places.{zip_weaker}
@@ -42,7 +42,7 @@ opened_handled before after all = zip_weaker IsTouched IsHandled before after (�
 -- ---- not all are decoded
 
 begun_at : (before after : List Device) (found : List (List LogItem)) (i : ℕ) → AreBegunOn before after found → i < length found
-    → (end : ℕ) × Begun (device_at before i).told (device_at after i).told end (get_or found i [])
+    → (end : ℕ) × DeviceBegun (device_at before i).told (device_at after i).told end (get_or found i [])
 begun_at before after [] i are lt = absurd (omega (arith, lt))
 begun_at [] after (f ∷ fs) i are lt = absurd are
 begun_at (b ∷ bs) [] (f ∷ fs) i are lt = absurd are

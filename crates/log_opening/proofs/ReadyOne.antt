@@ -17,7 +17,7 @@ use Rattle.gate_log.specs.State.{LogState}
 use Rattle.record_log.specs.Growth.{upgrading_of}
 use Rattle.record_log.specs.RecordLogLaws.{UpgradeKeepsRecords}
 use Rattle.record_log.specs.Records.{KeepsRecords}
-use Rattle.log_opening.specs.Devices.{Device, as_device, preparing_of, Begun, HoldsNoOld, HoldsOld, IsDevicePrepared, IsUpgradeCutOff}
+use Rattle.log_opening.specs.Devices.{Device, as_device, preparing_of, DeviceBegun, HoldsNoOld, HoldsOld, IsDevicePrepared, IsUpgradeCutOff}
 use Rattle.log_opening.specs.Found.{IsBegunOn, IsFoundOn, IsHandled, IsKeptSafe, IsReadyLog}
 use Rattle.log_opening.specs.Upgrades.{IsBeginningCutOff, IsMadeReady, IsNotMadeReady, IsUpgraded}
 
@@ -109,12 +109,12 @@ module _ (laws : ReadyLaws) (b : Device) (l k : LogState) (items : List LogItem)
       by (Some h) is = sym is ∙ one
 
   -- it was of format 2
-  begun_still : l.format ≡ 2 → (end : ℕ) × Begun b.told l.told end items
+  begun_still : l.format ≡ 2 → (end : ℕ) × DeviceBegun b.told l.told end items
   begun_still two =
       (on.opened.0, (l.told, on.opened.1, subst (λ (ops : List DevOp). AddsAll l.told l.told ops) (sym (second_stays b.told l.format was two)) (adds_nothing l.told l.told refl)))
 
   -- it was of format 1
-  begun_now : l.format ≡ 1 → IsUpgraded l k → (end : ℕ) × Begun b.told k.told end items
+  begun_now : l.format ≡ 1 → IsUpgraded l k → (end : ℕ) × DeviceBegun b.told k.told end items
   begun_now one up = (on.opened.0, (l.told, on.opened.1, first_upgrades b.told l.told k.told on.opened.0 items l.format on.opened.1 was one up.adds))
 
   keeps_now : IsUpgraded l k → KeepsRecords b.told k.told

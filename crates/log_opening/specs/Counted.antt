@@ -58,7 +58,7 @@ pub record FailsUpgrade (count : ℕ) (before after : List devices.Device) (log 
 pub record HasBadRecord (count : ℕ) (before after : List devices.Device) (log offset : ℕ) : Type 0 where
   pub asked : log < count
   pub bad : (end : ℕ) × (found : List LogItem)
-      × devices.Begun (devices.device_at before log).told (devices.device_at after log).told end found × IsFirstBadIn found offset
+      × devices.DeviceBegun (devices.device_at before log).told (devices.device_at after log).told end found × IsFirstBadIn found offset
   pub below : (records : List (List Record)) × (log ≡ length records) × AllZip DeviceHolds (take log before) records
   pub recent : devices.HoldNoOld count before
   pub begun : devices.AreBegun count before after

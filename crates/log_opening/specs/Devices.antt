@@ -80,12 +80,12 @@ abbrev pub HoldNoOld : ℕ → List Device → Type 0
 HoldNoOld count before = AllByRecursion HoldsNoOld (take count before)
 
 -- A device was opened, and its log made one of format 2, where it was of format 1.
-abbrev pub Begun : Option History → Option History → ℕ → List LogItem → Type 0
-Begun old new end found = (opened : Option History) × Opened old opened end found × AddsAll opened new (upgrading_of old)
+abbrev pub DeviceBegun : Option History → Option History → ℕ → List LogItem → Type 0
+DeviceBegun old new end found = (opened : Option History) × Opened old opened end found × AddsAll opened new (upgrading_of old)
 
 -- A device was opened, and its log made one of format 2, where it was of format 1; at some end, with some items.
 abbrev pub IsBegun : Device → Device → Type 0
-IsBegun before after = (end : ℕ) × (found : List LogItem) × Begun before.told after.told end found
+IsBegun before after = (end : ℕ) × (found : List LogItem) × DeviceBegun before.told after.told end found
 
 -- So many devices are opened, from the first one on, and their logs made ones of format 2. The others got no call.
 pub record AreBegun (count : ℕ) (before after : List Device) : Type 0 where
@@ -98,11 +98,11 @@ preparing_of old [] = upgrading_of old
 preparing_of old (item ∷ found) = []
 
 -- A device was opened, and its log made one of format 2, where it was of format 1 and had no item.
-abbrev pub Prepared : Option History → Option History → ℕ → List LogItem → Type 0
-Prepared old new end found = (opened : Option History) × Opened old opened end found × AddsAll opened new (preparing_of old found)
+abbrev pub DevicePrepared : Option History → Option History → ℕ → List LogItem → Type 0
+DevicePrepared old new end found = (opened : Option History) × Opened old opened end found × AddsAll opened new (preparing_of old found)
 
 abbrev pub IsDevicePrepared : Device → Device → Type 0
-IsDevicePrepared before after = (end : ℕ) × (found : List LogItem) × Prepared before.told after.told end found
+IsDevicePrepared before after = (end : ℕ) × (found : List LogItem) × DevicePrepared before.told after.told end found
 
 -- A device was opened, its log was of format 1 and had no item, and the upgrade met a fault.
 abbrev pub IsUpgradeCutOff : Device → Device → Type 0

@@ -58,7 +58,7 @@ pub record IsTouched (before after : devices.Device) : Type 0 where
 
 -- the device is opened, these items were found on it, and its log is one of format 2 now
 pub record IsBegunOn (before after : devices.Device) (items : List LogItem) : Type 0 where
-  pub begun : (end : ℕ) × devices.Begun before.told after.told end items
+  pub begun : (end : ℕ) × devices.DeviceBegun before.told after.told end items
   pub placed : ArePlaced items
   pub safe : IsKeptSafe before after
 

@@ -3,7 +3,7 @@
 use Rattle.std.specs.Prelude.{◌≡◌, ℕ, ◌+◌, nat_le, ◌==◌, ◌&&◌, ◌||◌, Bool, true, false, Option, Some, None, List, ◌∷◌}
 use Rattle.std.specs.List.{list_any}
 use Rattle.snap_base.specs.declared.ids.ActorId.{ActorId}
-use Rattle.snap_base.specs.declared.ids.Tid.{Tid}
+pub use Rattle.snap_base.specs.States.{tid_of}
 use Rattle.snap_base.specs.declared.transactions.State.{State}
 use Rattle.snap_base.specs.declared.transactions.Tx.{Tx}
 use Rattle.aml_tree.specs.Tree.{CheckedMethod}
@@ -29,9 +29,6 @@ is_left (Some uses) a = list_any (λ (u : ActorId × ℕ). (u.0.0 == a) && nat_l
 
 abbrev pub rests_on : Rest → ℕ → Bool
 rests_on c a = is_stood_on (c.top ∷ c.waiting) a || is_left c.left a
-
-abbrev pub tid_of : ℕ → Tid
-tid_of n = record { 0 = n }
 
 abbrev pub as_sliced : SliceEnd → Sliced Rest
 as_sliced x = record { state = x.state; next = next_meant x.next }

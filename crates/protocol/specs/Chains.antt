@@ -66,6 +66,10 @@ abbrev pub by_place : List Done → List Done
 by_place [] = []
 by_place (d ∷ ds) = put_by_place d (by_place ds)
 
+-- those committed of the batches below k, and the committed ACTs with a number below c
+abbrev pub counts : ℕ → ℕ → Done → Bool
+counts k c d = is_value d.result && (if d.place.side == 0 then nat_lt d.place.batch.0 k else nat_lt d.place.order c)
+
 abbrev pub IsBelowAll : Place → List Done → Type 0
 IsBelowAll p [] = ⊤
 IsBelowAll p (d ∷ ds) = (is_place_below p d.place ≡ true) × IsBelowAll p ds

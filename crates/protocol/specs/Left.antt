@@ -1,16 +1,13 @@
 -- How many events may still come, at most: a number computed from a state.
 use Rattle.std.specs.Prelude.{ℕ, zero, suc, ◌+◌, ◌-◌, ◌*◌, Bool, true, false, not, ◌||◌, List, [], ◌∷◌, length, map}
 use Rattle.std.specs.List.{list_all}
+pub use Rattle.snap_base.specs.Numbers.{total}
 use Rattle.protocol.specs.Fixed.{Fixed, Code, Next, Go, Ended}
 use Rattle.protocol.specs.Parts.{Ring, Status, Live, Doomed, Decided, Sealed, Joined, Act, SubBatch, ControlMessage, Stage, Formed, Committing, Settled, Declared, Batch, Log, Slot, Entry, BatchEntry, ActEntry, Waiting, Outcome, Cell, Machine}
 use Rattle.protocol.specs.Words.{is_empty, is_among}
 use Rattle.protocol.specs.Conditions.{is_idle, epoch}
 
 -- ---- words
-
-abbrev pub total : {X : Type 0} → (X → ℕ) → List X → ℕ
-total f [] = 0
-total f (x ∷ xs) = f x + total f xs
 
 abbrev pub unless : Bool → ℕ → ℕ
 unless true n = 0

@@ -52,8 +52,8 @@ bids_along (e ∷ es) = bids_by e ++ bids_along es
 -- ---- who has them
 
 -- the tids of all batches and of all ACTs
-abbrev pub tids_of : {C : Type 0} → Machine C → List ℕ
-tids_of s = flat (map (λ b. map (λ p. p.tid) b.pacts) s.desk.batches) ++ map (λ x. x.tid) s.book.acts
+abbrev pub all_tids : {C : Type 0} → Machine C → List ℕ
+all_tids s = flat (map (λ b. map (λ p. p.tid) b.pacts) s.desk.batches) ++ map (λ x. x.tid) s.book.acts
 
 -- where a submitted transaction may be: a queue, a batch or the book
 abbrev pub txs_in : {C : Type 0} → Machine C → List ℕ
@@ -78,7 +78,7 @@ controls_in s = tids_of_controls s.post.controls (map (λ c. c.inbox) s.cells) (
 pub record NumbersDrawnOnce {C : Type 0} (w : Fixed C) (s : Machine C) : Type 0 where
   pub bids : map (λ b. b.bid) s.desk.batches ≡ from w.text.opening.next_bid (length s.desk.batches)
   pub next_bid : s.ring.next_bid ≡ w.text.opening.next_bid + length s.desk.batches
-  pub tids : (t : ℕ) → times t (tids_of s) ≡ once_in w.text.opening.next_tid s.ring.next_tid t
+  pub tids : (t : ℕ) → times t (all_tids s) ≡ once_in w.text.opening.next_tid s.ring.next_tid t
 
 -- Each submitted transaction is in one place, and no other is in any.
 abbrev pub TransactionsInOnePlace : {C : Type 0} → Fixed C → Machine C → Type 0

@@ -16,10 +16,10 @@ HasNotRead reads (BatchEntry b) = ⊤
 HasNotRead reads (ActEntry x) = x.reader ≡ true → has_read reads x.tid ≡ false
 
 -- each slice of a reader that stands here found this state, and left it so
-abbrev pub Seen : State → List Slice → Entry → Type 0
-Seen now reads (BatchEntry b) = ⊤
-Seen now reads (ActEntry x) = x.reader ≡ true → AllByRecursion (λ z. z.tid ≡ x.tid → (z.found ≡ now) × (z.left ≡ now)) reads
+abbrev pub ReadersFound : State → List Slice → Entry → Type 0
+ReadersFound now reads (BatchEntry b) = ⊤
+ReadersFound now reads (ActEntry x) = x.reader ≡ true → AllByRecursion (λ z. z.tid ≡ x.tid → (z.found ≡ now) × (z.left ≡ now)) reads
 
 abbrev pub SeesAt : State → List Slice → List Entry → Type 0
 SeesAt now reads [] = ⊤
-SeesAt now reads (e ∷ es) = Seen now reads e × (blocks_readers e ≡ true → AllByRecursion (HasNotRead reads) es) × SeesAt now reads es
+SeesAt now reads (e ∷ es) = ReadersFound now reads e × (blocks_readers e ≡ true → AllByRecursion (HasNotRead reads) es) × SeesAt now reads es

@@ -17,7 +17,7 @@ use Rattle.protocol_verdicts.specs.Evidence.{VerdictsStay}
 use Rattle.snap_base.specs.declared.verdicts.Verdict.{Verdict}
 use Rattle.protocol_laws.specs.OneWay.{EachBecame, ActWent, LogGrew, StatusWent, WentOn}
 use Rattle.protocol_ready.specs.Touched.{IsSound, is_abort, reads_changed, changes_note, changes_trim, changes_replied}
-use Rattle.protocol_ready.specs.Refusing.{actor_of, tid_of, bid_of, is_at, is_on_ring, is_form, spreads, may_free, is_on_batches, is_settle, is_in_reach, is_reply}
+use Rattle.protocol_ready.specs.Refusing.{actor_of_event, tid_of_event, bid_of_event, is_at, is_on_ring, is_form, spreads, may_free, is_on_batches, is_settle, is_in_reach, is_reply}
 use Rattle.protocol_ready.proofs.Cited.{Framed}
 use Rattle.protocol_ready.proofs.Reached as reach
 use Rattle.protocol_ready.proofs.TouchedEvents.{untouched}
@@ -173,24 +173,24 @@ keeps w e s (Admit t) framed ok went told al z h apart allowed =
     let o = or_parts (is_on_ring e) (may_free e) h in
     rw (reach.ring w e s z o.0, acts_counted w e s (framed e s) z o.0 o.1) allowed
 keeps w e s (Arrive k a) framed ok went told al z h apart allowed =
-    let o = or_parts (is_at a (actor_of e)) (is_at k (bid_of e)) h in
+    let o = or_parts (is_at a (actor_of_event e)) (is_at k (bid_of_event e)) h in
     unread w e s (Arrive k a) framed ok al z (or_from _ _ (or_from _ _ (reach.subs e k o.1) (reach.sub e k a o.0)) (or_from _ _ (reach.epochs e a o.0) (reach.tails e a o.0))) allowed
 keeps w e s (Ask t a) framed ok went told al z h apart allowed =
-    let o = or_parts (is_form e || spreads e) (is_at a (actor_of e) || is_at t (tid_of e)) h in
+    let o = or_parts (is_form e || spreads e) (is_at a (actor_of_event e) || is_at t (tid_of_event e)) h in
     let p = or_parts (is_form e) (spreads e) o.0 in
-    let q = or_parts (is_at a (actor_of e)) (is_at t (tid_of e)) o.1 in
+    let q = or_parts (is_at a (actor_of_event e)) (is_at t (tid_of_event e)) o.1 in
     unread w e s (Ask t a) framed ok al z (or_from _ _ (reach.control w e s t p.0 q.1) (or_from _ _ (reach.dooms e s t p.1 q.1) (or_from _ _ (reach.entries e a q.0) (reach.epochs e a q.0)))) allowed
 keeps w e s (Take t a) framed ok went told al z h apart allowed =
-    let o = or_parts (is_form e) (is_at a (actor_of e) || is_at t (tid_of e)) h in
-    let q = or_parts (is_at a (actor_of e)) (is_at t (tid_of e)) o.1 in
+    let o = or_parts (is_form e) (is_at a (actor_of_event e) || is_at t (tid_of_event e)) h in
+    let q = or_parts (is_at a (actor_of_event e)) (is_at t (tid_of_event e)) o.1 in
     unread w e s (Take t a) framed ok al z (or_from _ _ (reach.control w e s t o.0 q.1) (reach.entries e a q.0)) allowed
 keeps w e s (Run t a) framed ok went told al z h apart allowed =
     unread w e s (Run t a) framed ok al z (or_from _ _ (or_from _ _ (reach.boxes e a h) (reach.inbox e t a h)) (or_from _ _ (reach.entries e a h) (reach.marks w e s a h))) allowed
 keeps w e s (Send t a) framed ok went told al z h apart allowed = unread w e s (Send t a) framed ok al z (or_from _ _ (reach.boxes e a h) (reach.outbox e t a h)) allowed
 keeps w e s (End t a) framed ok went told al z h apart allowed = unread w e s (End t a) framed ok al z (or_from _ _ (reach.boxes e a h) (reach.outbox e t a h)) allowed
 keeps w e s (Close t a) framed ok went told al z h apart allowed =
-    let o = or_parts (is_form e) (is_at a (actor_of e) || is_at t (tid_of e)) h in
-    let q = or_parts (is_at a (actor_of e)) (is_at t (tid_of e)) o.1 in
+    let o = or_parts (is_form e) (is_at a (actor_of_event e) || is_at t (tid_of_event e)) h in
+    let q = or_parts (is_at a (actor_of_event e)) (is_at t (tid_of_event e)) o.1 in
     unread w e s (Close t a) framed ok al z (or_from _ _ (reach.result w e s t o.0 q.1) (or_from _ _ (reach.entries e a q.0) (reach.dones w e s t a q.0))) allowed
 keeps w e s (Complete k a) framed ok went told al z h apart allowed = unread w e s (Complete k a) framed ok al z (or_from _ _ (reach.entries e a h) (reach.marks w e s a h)) allowed
 keeps w e s (Sync l) framed ok went told al z h apart allowed = unread w e s (Sync l) framed ok al z (reach.log w e l h) allowed
@@ -199,7 +199,7 @@ keeps w e s (Note k a) framed ok went told al z h apart allowed = (
   (durable_went (is_complete k a) s.logs (after w e s).logs (a % w.text.logs) went.logs allowed.1.0, tt),
 )
 keeps w e s (Commit k) framed ok went told al z h apart allowed =
-    let o = or_parts (is_on_batches e) (is_at k (bid_of e)) h in
+    let o = or_parts (is_on_batches e) (is_at k (bid_of_event e)) h in
     let st = reach.stage e k o.1 in (
       rw (next_stays w e s k (framed e s) ok.bids al z (reach.next e k o.0), open_test w e s k (is_next_to_commit k s.desk.batches) z st) allowed.0,
       (
@@ -212,34 +212,34 @@ keeps w e s (Settle k) framed ok went told al z h apart allowed = (
   (durable_went (is_commit k) s.logs (after w e s).logs (k % w.text.logs) went.logs allowed.1.0, tt),
 )
 keeps w e s (Abort k) framed ok went told al z h apart allowed =
-    let o = or_parts (is_on_batches e) (is_at k (bid_of e)) h in
+    let o = or_parts (is_on_batches e) (is_at k (bid_of_event e)) h in
     unread w e s (Abort k) framed ok al z (or_from _ _ (reach.stage e k o.1) (or_from _ _ (reach.results e s k o.0) (reach.next e k o.0))) allowed
 keeps w e s (Rollback a) framed ok went told al z h apart allowed = unread w e s (Rollback a) framed ok al z (reach.epochs e a h) allowed
 keeps w e s (DropSub k a) framed ok went told al z h apart allowed =
-    let o = or_parts (is_at a (actor_of e)) (is_at k (bid_of e)) h in
+    let o = or_parts (is_at a (actor_of_event e)) (is_at k (bid_of_event e)) h in
     unread w e s (DropSub k a) framed ok al z (or_from _ _ (reach.subs e k o.1) (reach.sub e k a o.0)) allowed
 keeps w e s (DropControl t) framed ok went told al z h apart allowed =
-    let o = or_parts (is_form e) (is_at t (tid_of e)) h in
+    let o = or_parts (is_form e) (is_at t (tid_of_event e)) h in
     rw (control_stays w e s t (reach.control w e s t o.0 o.1)) (allowed.0, (given_up_went w e s (control_of t s.post.controls) z went.acts allowed.1.0, tt))
 keeps w e s (Prepare t a) framed ok went told al z h apart allowed =
-    let o = or_parts (spreads e) (is_at t (tid_of e)) h in
+    let o = or_parts (spreads e) (is_at t (tid_of_event e)) h in
     unread w e s (Prepare t a) framed ok al z (or_from _ _ (reach.acts e s t o.0 o.1) (reach.prepared e t a o.1)) allowed
 keeps w e s (Vouch t a) framed ok went told al z h apart allowed =
-    let o = or_parts (spreads e) (is_at t (tid_of e)) h in (
+    let o = or_parts (spreads e) (is_at t (tid_of_event e)) h in (
       act_test w e s t (λ x. is_live_act x && (not (is_doomed x.status) && holds (λ p. p.prepared && not p.vouched) (joined_of a x))) (λ x. refl) (vouch_bears e t a (or_from _ _ (reach.prepared e t a o.1) (reach.vouched e t a o.1)) (reach.left e t o.1)) z (reach.acts e s t o.0 o.1) ∙ allowed.0,
       (durable_went (is_prepare t a) s.logs (after w e s).logs (a % w.text.logs) went.logs allowed.1.0, tt),
     )
 keeps w e s (Decide t) framed ok went told al z h apart allowed =
-    let o = or_parts (spreads e || is_settle e) (is_at t (tid_of e)) h in
+    let o = or_parts (spreads e || is_settle e) (is_at t (tid_of_event e)) h in
     let p = or_parts (spreads e) (is_settle e) o.0 in
     unread w e s (Decide t) framed ok al z (or_from _ _ (reach.acts e s t p.0 o.1) (or_from _ _ (reach.votes e t o.1) (reach.settled e p.1))) allowed
 keeps w e s (Seal t) framed ok went told al z h apart allowed =
-    let o = or_parts (spreads e) (is_at t (tid_of e)) h in (
+    let o = or_parts (spreads e) (is_at t (tid_of_event e)) h in (
       act_test w e s t (λ x. is_decided x.status) (λ x. refl) (plain (λ x. is_decided x.status) e t (λ b f x. refl)) z (reach.acts e s t o.0 o.1) ∙ allowed.0,
       (durable_went (is_act_commit t) s.logs (after w e s).logs (t % w.text.logs) went.logs allowed.1.0, tt),
     )
 keeps w e s (Finish t a) framed ok went told al z h apart allowed =
-    let o = or_parts (spreads e) (is_at t (tid_of e)) h in
+    let o = or_parts (spreads e) (is_at t (tid_of_event e)) h in
     unread w e s (Finish t a) framed ok al z (or_from _ _ (reach.acts e s t o.0 o.1) (reach.finished e t a o.1)) allowed
 keeps w e s (Reply n) framed ok went told al z h apart allowed = reply_stays w e s n told apart allowed
 keeps w e s (Trim k a) framed ok went told al z h apart allowed = (trim_test w e s k a z (reach.stage e k h) (other_trim e k a apart) ∙ allowed.0, tt)

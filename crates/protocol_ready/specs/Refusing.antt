@@ -15,42 +15,42 @@ use Rattle.protocol_ready.specs.Touched.{is_touched, is_abort}
 -- ---- where an event is, and what kind it is of
 
 -- the actor whose schedule, boxes or messages it changes
-abbrev pub actor_of : Event → Option ℕ
-actor_of (Arrive k a) = Some a
-actor_of (Ask t a) = Some a
-actor_of (Take t a) = Some a
-actor_of (Run t a) = Some a
-actor_of (Send t a) = Some a
-actor_of (End t a) = Some a
-actor_of (Close t a) = Some a
-actor_of (Complete k a) = Some a
-actor_of (Rollback a) = Some a
-actor_of (DropSub k a) = Some a
-actor_of (Finish t a) = Some a
-actor_of (Trim k a) = Some a
-actor_of _ = None
+abbrev pub actor_of_event : Event → Option ℕ
+actor_of_event (Arrive k a) = Some a
+actor_of_event (Ask t a) = Some a
+actor_of_event (Take t a) = Some a
+actor_of_event (Run t a) = Some a
+actor_of_event (Send t a) = Some a
+actor_of_event (End t a) = Some a
+actor_of_event (Close t a) = Some a
+actor_of_event (Complete k a) = Some a
+actor_of_event (Rollback a) = Some a
+actor_of_event (DropSub k a) = Some a
+actor_of_event (Finish t a) = Some a
+actor_of_event (Trim k a) = Some a
+actor_of_event _ = None
 
 -- the transaction whose control, result or votes it changes
-abbrev pub tid_of : Event → Option ℕ
-tid_of (Admit t) = Some t
-tid_of (Ask t a) = Some t
-tid_of (Take t a) = Some t
-tid_of (Send t a) = Some t
-tid_of (End t a) = Some t
-tid_of (DropControl t) = Some t
-tid_of (Prepare t a) = Some t
-tid_of (Vouch t a) = Some t
-tid_of (Decide t) = Some t
-tid_of (Seal t) = Some t
-tid_of (Finish t a) = Some t
-tid_of _ = None
+abbrev pub tid_of_event : Event → Option ℕ
+tid_of_event (Admit t) = Some t
+tid_of_event (Ask t a) = Some t
+tid_of_event (Take t a) = Some t
+tid_of_event (Send t a) = Some t
+tid_of_event (End t a) = Some t
+tid_of_event (DropControl t) = Some t
+tid_of_event (Prepare t a) = Some t
+tid_of_event (Vouch t a) = Some t
+tid_of_event (Decide t) = Some t
+tid_of_event (Seal t) = Some t
+tid_of_event (Finish t a) = Some t
+tid_of_event _ = None
 
 -- the batch that comes to be, or goes on
-abbrev pub bid_of : Event → Option ℕ
-bid_of (Form k) = Some k
-bid_of (Commit k) = Some k
-bid_of (Settle k) = Some k
-bid_of _ = None
+abbrev pub bid_of_event : Event → Option ℕ
+bid_of_event (Form k) = Some k
+bid_of_event (Commit k) = Some k
+bid_of_event (Settle k) = Some k
+bid_of_event _ = None
 
 abbrev pub is_at : ℕ → Option ℕ → Bool
 is_at n None = false
@@ -113,29 +113,29 @@ is_in_reach e (Submit n) = is_on_ring e
 is_in_reach e (Pass c) = is_on_ring e
 is_in_reach e (Form k) = is_on_ring e || may_free e
 is_in_reach e (Admit t) = is_on_ring e || may_free e
-is_in_reach e (Arrive k a) = is_at a (actor_of e) || is_at k (bid_of e)
-is_in_reach e (Ask t a) = (is_form e || spreads e) || (is_at a (actor_of e) || is_at t (tid_of e))
-is_in_reach e (Take t a) = is_form e || (is_at a (actor_of e) || is_at t (tid_of e))
-is_in_reach e (Run t a) = is_at a (actor_of e)
-is_in_reach e (Send t a) = is_at a (actor_of e)
-is_in_reach e (End t a) = is_at a (actor_of e)
-is_in_reach e (Close t a) = is_form e || (is_at a (actor_of e) || is_at t (tid_of e))
-is_in_reach e (Complete k a) = is_at a (actor_of e)
+is_in_reach e (Arrive k a) = is_at a (actor_of_event e) || is_at k (bid_of_event e)
+is_in_reach e (Ask t a) = (is_form e || spreads e) || (is_at a (actor_of_event e) || is_at t (tid_of_event e))
+is_in_reach e (Take t a) = is_form e || (is_at a (actor_of_event e) || is_at t (tid_of_event e))
+is_in_reach e (Run t a) = is_at a (actor_of_event e)
+is_in_reach e (Send t a) = is_at a (actor_of_event e)
+is_in_reach e (End t a) = is_at a (actor_of_event e)
+is_in_reach e (Close t a) = is_form e || (is_at a (actor_of_event e) || is_at t (tid_of_event e))
+is_in_reach e (Complete k a) = is_at a (actor_of_event e)
 is_in_reach e (Sync l) = is_on_log e
-is_in_reach e (Note k a) = is_at k (bid_of e)
-is_in_reach e (Commit k) = is_on_batches e || is_at k (bid_of e)
-is_in_reach e (Settle k) = is_at k (bid_of e)
-is_in_reach e (Abort k) = is_on_batches e || is_at k (bid_of e)
-is_in_reach e (Rollback a) = is_at a (actor_of e)
-is_in_reach e (DropSub k a) = is_at a (actor_of e) || is_at k (bid_of e)
-is_in_reach e (DropControl t) = is_form e || is_at t (tid_of e)
-is_in_reach e (Prepare t a) = spreads e || is_at t (tid_of e)
-is_in_reach e (Vouch t a) = spreads e || is_at t (tid_of e)
-is_in_reach e (Decide t) = (spreads e || is_settle e) || is_at t (tid_of e)
-is_in_reach e (Seal t) = spreads e || is_at t (tid_of e)
-is_in_reach e (Finish t a) = spreads e || is_at t (tid_of e)
+is_in_reach e (Note k a) = is_at k (bid_of_event e)
+is_in_reach e (Commit k) = is_on_batches e || is_at k (bid_of_event e)
+is_in_reach e (Settle k) = is_at k (bid_of_event e)
+is_in_reach e (Abort k) = is_on_batches e || is_at k (bid_of_event e)
+is_in_reach e (Rollback a) = is_at a (actor_of_event e)
+is_in_reach e (DropSub k a) = is_at a (actor_of_event e) || is_at k (bid_of_event e)
+is_in_reach e (DropControl t) = is_form e || is_at t (tid_of_event e)
+is_in_reach e (Prepare t a) = spreads e || is_at t (tid_of_event e)
+is_in_reach e (Vouch t a) = spreads e || is_at t (tid_of_event e)
+is_in_reach e (Decide t) = (spreads e || is_settle e) || is_at t (tid_of_event e)
+is_in_reach e (Seal t) = spreads e || is_at t (tid_of_event e)
+is_in_reach e (Finish t a) = spreads e || is_at t (tid_of_event e)
 is_in_reach e (Reply n) = false
-is_in_reach e (Trim k a) = is_at k (bid_of e)
+is_in_reach e (Trim k a) = is_at k (bid_of_event e)
 
 abbrev pub is_reply : Event → Bool
 is_reply (Reply n) = true

@@ -31,8 +31,8 @@ is_written many logs (OfBatch k) = logged_at (is_commit k) logs (k % many)
 is_written many logs (OfAct t) = logged_at (is_act_commit t) logs (t % many)
 
 -- who has a commit record committed with a value
-unfoldable pub Written : {C : Type 0} → Fixed C → Machine C → History → Type 0
-Written w s h = (y : Who) → is_written w.text.logs s.logs y ≡ true → (is_kept y h.kept || is_kept y h.kept_readers) ≡ true
+unfoldable pub WrittenHaveValues : {C : Type 0} → Fixed C → Machine C → History → Type 0
+WrittenHaveValues w s h = (y : Who) → is_written w.text.logs s.logs y ≡ true → (is_kept y h.kept || is_kept y h.kept_readers) ≡ true
 
 -- ---- batches
 

@@ -60,14 +60,14 @@ EntriesTell acts (BatchEntry b ∷ es) = EntriesTell acts es
 EntriesTell acts (ActEntry z ∷ es) = ((x : Act) → act_of z.tid acts ≡ Some x → x.reader ≡ z.reader) × EntriesTell acts es
 
 -- each is below all that follow
-abbrev pub BatchesRise : List ℕ → Type 0
-BatchesRise [] = ⊤
-BatchesRise (k ∷ ks) = ((j : ℕ) → is_among j ks ≡ true → k < j) × BatchesRise ks
+abbrev pub NumbersRise : List ℕ → Type 0
+NumbersRise [] = ⊤
+NumbersRise (k ∷ ks) = ((j : ℕ) → is_among j ks ≡ true → k < j) × NumbersRise ks
 
 -- ---- what is used
 
 -- who has a number is found by it
-pub record Found {C : Type 0} (w : Fixed C) (s : Machine C) : Type 0 where
+pub record AreFoundByNumber {C : Type 0} (w : Fixed C) (s : Machine C) : Type 0 where
   pub batches : AllByRecursion (λ b. batch_of b.bid s.desk.batches ≡ Some b) s.desk.batches
   pub acts : AllByRecursion (λ x. act_of x.tid s.book.acts ≡ Some x) s.book.acts
   pub declared : (k : ℕ) (b : Batch) → batch_of k s.desk.batches ≡ Some b → AllByRecursion (λ p. (declared_of p.actor b ≡ Some p) × (p.actor < length s.cells)) b.places
@@ -76,7 +76,7 @@ pub record Found {C : Type 0} (w : Fixed C) (s : Machine C) : Type 0 where
   pub tids : (t : ℕ) (x : Act) → act_of t s.book.acts ≡ Some x → t < s.ring.next_tid
 
 -- what is marked has its record
-pub record Written {C : Type 0} (w : Fixed C) (s : Machine C) : Type 0 where
+pub record MarksAreWritten {C : Type 0} (w : Fixed C) (s : Machine C) : Type 0 where
   pub logs : length s.logs ≡ w.text.logs
   pub info : (k : ℕ) (b : Batch) → batch_of k s.desk.batches ≡ Some b → list_any (is_info k) (log_at s (k % w.text.logs)).records ≡ true
   pub complete : (a : ℕ) (b : PlacedBatch) (es : List Entry) → (cell_at s a).entries ≡ BatchEntry b ∷ es → b.complete ≡ true → list_any (is_complete b.bid a) (log_at s (a % w.text.logs)).records ≡ true
@@ -104,7 +104,7 @@ pub record BatchesPlaced {C : Type 0} (w : Fixed C) (s : Machine C) : Type 0 whe
   -- a cell is not ahead of the cascades, and one that is not behind has no aborted batch
   pub behind : (a : ℕ) → (cell_at s a).epoch ≤ epoch s.book
   pub present : (a k : ℕ) → (cell_at s a).epoch ≡ epoch s.book → is_among k (batches_on (cell_at s a).entries) ≡ true → is_aborted k s.book.cascades ≡ false
-  pub rises : (a : ℕ) → BatchesRise (batches_on (cell_at s a).entries)
+  pub rises : (a : ℕ) → NumbersRise (batches_on (cell_at s a).entries)
   -- who is trimmed somewhere is settled, and each has an actor
   pub trimmed : (k : ℕ) (b : Batch) → batch_of k s.desk.batches ≡ Some b → AllByRecursion (λ p. p.trimmed ≡ true → is_settled b.stage ≡ true) b.places
   pub somewhere : (k : ℕ) (b : Batch) → batch_of k s.desk.batches ≡ Some b → is_empty b.places ≡ false
@@ -144,8 +144,8 @@ pub record ActsPlaced {C : Type 0} (w : Fixed C) (s : Machine C) : Type 0 where
   pub over : (t : ℕ) (x : Act) → act_of t s.book.acts ≡ Some x → is_live_act x ≡ false → (is_doomed x.status || is_sealed x.status) ≡ true
 
 pub record Orderly {C : Type 0} (w : Fixed C) (s : Machine C) : Type 0 where
-  pub found : Found w s
-  pub written : Written w s
+  pub found : AreFoundByNumber w s
+  pub written : MarksAreWritten w s
   pub batches : BatchesPlaced w s
   pub controls : ControlsPlaced w s
   pub acts : ActsPlaced w s

@@ -1,5 +1,5 @@
 -- What a verdict tells of serial runs: that of all that committed, and those before a batch that failed.
-use Rattle.std.specs.Prelude.{◌≡◌, ◌⊎◌, ℕ, ℤ, ◌+◌, ◌≤◌, ◌==◌, nat_lt, Bool, true, false, ◌&&◌, if◌then◌else◌, Some, List, [], ◌∷◌, ◌++◌, map, filter, ⊤}
+use Rattle.std.specs.Prelude.{◌≡◌, ◌⊎◌, ℕ, ℤ, ◌+◌, ◌≤◌, ◌==◌, true, false, ◌&&◌, Some, List, [], ◌∷◌, ◌++◌, map, filter, ⊤}
 use Rattle.std.specs.List.{AllByRecursion, list_any}
 use Rattle.snap_base.specs.declared.transactions.State.{State}
 use Rattle.snap_base.specs.declared.transactions.TxResult.{TxResult}
@@ -15,6 +15,7 @@ use Rattle.protocol.specs.Verdicts.{verdict, pact_place, act_place}
 use Rattle.protocol_laws.specs.Told.{IsAmongDone}
 use Rattle.protocol.specs.Runs.{reached}
 use Rattle.protocol.specs.History.{Done, history}
+pub use Rattle.protocol.specs.Chains.{counts}
 use Rattle.protocol.specs.Chains.{by_place, txs_of}
 
 -- ---- in the serial run of what committed
@@ -30,10 +31,6 @@ pub record HasResultThere {C : Type 0} (w : Fixed C) (finish : C → List State 
   pub gives : (alone w.code finish (serial w.code finish w.text.opening.states (txs_of w front)).world (tx_at w.text n)).result ≡ r
 
 -- ---- before a batch that failed
-
--- a PACT of a batch below k, or an ACT with a value and a number below c
-abbrev pub counts : ℕ → ℕ → Done → Bool
-counts k c d = is_value d.result && (if d.place.side == 0 then nat_lt d.place.batch.0 k else nat_lt d.place.order c)
 
 -- these, in the order of places
 abbrev pub counted : ℕ → ℕ → List Done → List Done

@@ -2,7 +2,7 @@
 
 ghost use Rattle.std.specs.Prelude.{◌≡◌, ◌||◌, is_some};
 ghost use Rattle.core_events.specs.Meant.{event_meant};
-ghost use Rattle.protocol_ready.specs.Refusing.{actor_of, tid_of, bid_of, is_at, is_on_ring, is_form, spreads, may_free, is_on_log, is_on_batches, is_settle, is_reply, may_refuse};
+ghost use Rattle.protocol_ready.specs.Refusing.{actor_of_event, tid_of_event, bid_of_event, is_at, is_on_ring, is_form, spreads, may_free, is_on_log, is_on_batches, is_settle, is_reply, may_refuse};
 ghost use Rattle.protocol_ready.specs.Touched.{is_abort};
 
 use core_events::Event;
@@ -23,9 +23,9 @@ pub struct Reach {
     log: bool,
     batches: bool,
     settle: bool,
-    ghost of_actor: { actor ≡ actor_of (event_meant event) },
-    ghost of_tid: { tid ≡ tid_of (event_meant event) },
-    ghost of_bid: { bid ≡ bid_of (event_meant event) },
+    ghost of_actor: { actor ≡ actor_of_event (event_meant event) },
+    ghost of_tid: { tid ≡ tid_of_event (event_meant event) },
+    ghost of_bid: { bid ≡ bid_of_event (event_meant event) },
     ghost of_abort: { abort ≡ is_abort (event_meant event) },
     ghost of_ring: { ring ≡ is_on_ring (event_meant event) },
     ghost of_form: { form ≡ is_form (event_meant event) },
@@ -58,7 +58,7 @@ impl Reach {
     }
 
     fn is_here(&self, a: u16) -> bool
-        ensures { result ≡ is_at a (actor_of (event_meant self.now.event)) }
+        ensures { result ≡ is_at a (actor_of_event (event_meant self.now.event)) }
     {
         match self.actor {
             Some(b) => b == a,
@@ -67,7 +67,7 @@ impl Reach {
     }
 
     fn has_tid(&self, t: u64) -> bool
-        ensures { result ≡ is_at t (tid_of (event_meant self.now.event)) }
+        ensures { result ≡ is_at t (tid_of_event (event_meant self.now.event)) }
     {
         match self.tid {
             Some(u) => u == t,
@@ -76,7 +76,7 @@ impl Reach {
     }
 
     fn has_bid(&self, k: u64) -> bool
-        ensures { result ≡ is_at k (bid_of (event_meant self.now.event)) }
+        ensures { result ≡ is_at k (bid_of_event (event_meant self.now.event)) }
     {
         match self.bid {
             Some(j) => j == k,
@@ -86,7 +86,7 @@ impl Reach {
 
     /// Whether it may refuse also events that stand behind the replies: those of batches that are over.
     pub fn is_wide(&self) -> bool
-        ensures { result ≡ is_abort (event_meant self.now.event) || is_some (bid_of (event_meant self.now.event)) }
+        ensures { result ≡ is_abort (event_meant self.now.event) || is_some (bid_of_event (event_meant self.now.event)) }
     {
         self.abort || self.bid.is_some()
     }
@@ -131,7 +131,7 @@ impl Reach {
 }
 
 fn actor_in(e: Event) -> Option<u16>
-    ensures { result ≡ actor_of (event_meant e) }
+    ensures { result ≡ actor_of_event (event_meant e) }
 {
     match e {
         Event::Arrive(_, a) | Event::Complete(_, a) | Event::DropSub(_, a) | Event::Trim(_, a) =>
@@ -149,7 +149,7 @@ fn actor_in(e: Event) -> Option<u16>
 }
 
 fn tid_in(e: Event) -> Option<u64>
-    ensures { result ≡ tid_of (event_meant e) }
+    ensures { result ≡ tid_of_event (event_meant e) }
 {
     match e {
         Event::Admit(t) | Event::DropControl(t) | Event::Decide(t) | Event::Seal(t) => Some(t.0),
@@ -165,7 +165,7 @@ fn tid_in(e: Event) -> Option<u64>
 }
 
 fn bid_in(e: Event) -> Option<u64>
-    ensures { result ≡ bid_of (event_meant e) }
+    ensures { result ≡ bid_of_event (event_meant e) }
 {
     match e {
         Event::Form(k) | Event::Commit(k) | Event::Settle(k) => Some(k.0),

@@ -15,7 +15,7 @@ use Rattle.protocol.specs.Laws.{OfEveryRun}
 use Rattle.protocol.specs.Parts.{Machine}
 use Rattle.protocol.specs.Schedule.{AscendByRank, IsEnabled}
 use Rattle.protocol_ready.specs.Ready.{put, without}
-use Rattle.protocol_ready.specs.Refusing.{IsRenewed, RenewedAreEnabled, bid_of, is_at, is_in_reach, may_refuse}
+use Rattle.protocol_ready.specs.Refusing.{IsRenewed, RenewedAreEnabled, bid_of_event, is_at, is_in_reach, may_refuse}
 use Rattle.protocol_ready.specs.Telling.{PartsTell}
 use Rattle.protocol_ready.specs.Touched.{is_abort, is_touched}
 use Rattle.ready_list.specs.Order.{IsGap, at, is_before}
@@ -218,7 +218,7 @@ pub trims_behind : (e : Event) (es : List Event) (n : ℕ) → IsGap es (Trim 0 
 trims_behind e es n gap j ahead within late = reply_stays e (at es j) late (gap.ahead j ahead)
 
 -- where the reach is narrow nothing there may be refused
-behind_replies : (e f : Event) → is_abort e ≡ false → is_some (bid_of e) ≡ false → is_before f (Reply 0) ≡ false → may_refuse e f ≡ false
+behind_replies : (e f : Event) → is_abort e ≡ false → is_some (bid_of_event e) ≡ false → is_before f (Reply 0) ≡ false → may_refuse e f ≡ false
 behind_replies e f z k h = rw z (by f h)
   where
     none_at : (n : ℕ) (o : Option ℕ) → is_some o ≡ false → is_at n o ≡ false
@@ -227,12 +227,12 @@ behind_replies e f z k h = rw z (by f h)
 
     by : (f : Event) → is_before f (Reply 0) ≡ false → is_in_reach e f ≡ false
     by (Reply n) h = refl
-    by (Trim j a) h = none_at j (bid_of e) k
+    by (Trim j a) h = none_at j (bid_of_event e) k
     by _ h = absurd (true≢false h)
 
-pub none_behind : (e : Event) (es : List Event) (wide : Bool) → wide ≡ (is_abort e || is_some (bid_of e)) → wide ≡ false → (j : ℕ) → is_before (at es j) (Reply 0) ≡ false → may_refuse e (at es j) ≡ false
+pub none_behind : (e : Event) (es : List Event) (wide : Bool) → wide ≡ (is_abort e || is_some (bid_of_event e)) → wide ≡ false → (j : ℕ) → is_before (at es j) (Reply 0) ≡ false → may_refuse e (at es j) ≡ false
 none_behind e es wide is narrow j late =
-    let none = or_parts (is_abort e) (is_some (bid_of e)) (sym is ∙ narrow) in
+    let none = or_parts (is_abort e) (is_some (bid_of_event e)) (sym is ∙ narrow) in
     behind_replies e (at es j) none.0 none.1 late
 
 -- ---- together

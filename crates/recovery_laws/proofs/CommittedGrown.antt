@@ -29,7 +29,7 @@ use Rattle.snap_recover.specs.Opening.{IsIn, IsInfoOf, HasItsValues, IsActOf, ac
 use Rattle.snap_recover.proofs.Lists.{contains_here, contains_there, contains_left, contains_right}
 use Rattle.snap_recover.proofs.Greatest.{each_below}
 use Rattle.protocol_laws.proofs.Lemmas.{found_bid, found_tid}
-use Rattle.log_set.specs.Told.{bid_of, tid_of, tids_of, actors_of}
+use Rattle.log_set.specs.Told.{bid_of, tid_of, tids_of, actor_ids}
 use Rattle.recovery_laws.specs.Grown.{grown, recovered_batch, commit_number_of, told_value, recovered_act, recovered_batches, all_in}
 use Rattle.recovery_laws.proofs.KnownLogs.{Apart, Known, all_at, old_low, in_old, in_cases, in_stays, in_new, old_acts_low, act_cases}
 use Rattle.recovery_laws.proofs.WholesGrown.{info_stays, info_new, done_stays, done_new, commit_stays, commit_new}
@@ -136,7 +136,7 @@ valued_grown {C} w earlier o s logs b g h = elim (in_cases w earlier o s logs b 
         let y = some_mapped batch_pact_tids (batch_of b.0 s.desk.batches) x.tids t.1 in
         let r : batch_results y.0 ≡ map valued d.at.values = mapped_is batch_results (batch_of b.0 s.desk.batches) y.0 (map valued d.at.values) y.1 d.results in
         record {
-          actors = actors_of x.actors;
+          actors = actor_ids x.actors;
           tids = tids_of x.tids;
           commit = BatchDone (bid_of b.0) d.at.values;
           info_is = info_new w earlier o s logs b.0 x.actors x.tids x.front x.rest g x.info;
@@ -157,7 +157,7 @@ new_kept {C} w earlier o s logs (b ∷ bs) g h = by (is_in w.text.logs logs (OfB
         let values : map (λ p. value_of p.result) b.pacts ≡ d.at.values = values_back b.pacts d.at.values (mapped_is batch_results (batch_of b.bid s.desk.batches) b (map valued d.at.values) h.0 d.results) in (
           (
             in_new w earlier o s logs b.bid g e,
-            (actors_of x.actors, subst (λ z. IsInfoOf (grown earlier logs) (bid_of b.bid) (actors_of x.actors) (tids_of z)) (sym same) (info_new w earlier o s logs b.bid x.actors x.tids x.front x.rest g x.info)),
+            (actor_ids x.actors, subst (λ z. IsInfoOf (grown earlier logs) (bid_of b.bid) (actor_ids x.actors) (tids_of z)) (sym same) (info_new w earlier o s logs b.bid x.actors x.tids x.front x.rest g x.info)),
             (BatchDone (bid_of b.bid) d.at.values, done_new w earlier o s logs b.bid d.at.values d.at.front d.at.rest g d.at.splits, values),
           ),
           r,
@@ -185,9 +185,9 @@ act_kept w earlier o s logs x g f l e =
     let m : x.m ≡ y.m = ap (λ z. z.m) (sym same) ∙ t.m_is in
     let n : has_number y.c x.status ≡ true = subst (λ z. has_number y.c z.status ≡ true) same t.c_is in
     let c : commit_number_of x.status ≡ y.c = number_is y.c x.status n in
-    let commits : IsActOf (grown earlier logs) (tid_of x.tid) (bid_of y.m) y.c (Some y.v) (actors_of y.actors) = commit_new w earlier o s logs x.tid y.m y.c y.v y.actors y.front y.rest g y.commit in
+    let commits : IsActOf (grown earlier logs) (tid_of x.tid) (bid_of y.m) y.c (Some y.v) (actor_ids y.actors) = commit_new w earlier o s logs x.tid y.m y.c y.v y.actors y.front y.rest g y.commit in
     let value : told_value x.result ≡ Some y.v = ap (λ z. told_value z.result) (sym same) ∙ ap told_value t.result_is in (
-      (actors_of y.actors, subst (λ z. IsActOf (grown earlier logs) (tid_of x.tid) (bid_of z) (commit_number_of x.status) (told_value x.result) (actors_of y.actors)) (sym m) (subst (λ z. IsActOf (grown earlier logs) (tid_of x.tid) (bid_of y.m) z (told_value x.result) (actors_of y.actors)) (sym c) (subst (λ z. IsActOf (grown earlier logs) (tid_of x.tid) (bid_of y.m) y.c z (actors_of y.actors)) (sym value) commits))),
+      (actor_ids y.actors, subst (λ z. IsActOf (grown earlier logs) (tid_of x.tid) (bid_of z) (commit_number_of x.status) (told_value x.result) (actor_ids y.actors)) (sym m) (subst (λ z. IsActOf (grown earlier logs) (tid_of x.tid) (bid_of y.m) z (told_value x.result) (actor_ids y.actors)) (sym c) (subst (λ z. IsActOf (grown earlier logs) (tid_of x.tid) (bid_of y.m) y.c z (actor_ids y.actors)) (sym value) commits))),
       (l, omega (arith, c, g.numbered x.tid x f y.c n)),
     )
 

@@ -24,7 +24,7 @@ use Rattle.snap_recover.specs.Passes.{StateOver}
 use Rattle.snap_recover.proofs.Lists.{contains_here, contains_there, contains_cases, contains_none}
 use Rattle.snap_recover.proofs.Greatest.{greatest_of}
 use Rattle.snap_recover.proofs.StatesOver.{over_quiet, over_counts}
-use Rattle.log_set.specs.Told.{bid_of, tid_of, actor_of, tids_of, actors_of, told, all_told}
+use Rattle.log_set.specs.Told.{bid_of, tid_of, actor_of, tids_of, actor_ids, told, all_told}
 use Rattle.recovery_laws.specs.Grown.{grown_from}
 
 -- ---- joins
@@ -228,17 +228,17 @@ pub over_written : (P : Record → Type 0) (many a : ℕ) (logs : ℕ → List L
     → StateOver P (front ++ all_told rs) first (crash.last_told s (filter (crash.tells_member_state many logs a) rs))
 over_written P many a logs first [] front s i h o = subst (λ z. StateOver P z first s) (sym (append-nil front)) o
 over_written P many a logs first (machine.BatchInfo k actors tids ∷ rs) front s i h o =
-    let r = BatchInfo (bid_of k) (actors_of actors) (tids_of tids) in
+    let r = BatchInfo (bid_of k) (actor_ids actors) (tids_of tids) in
     subst (λ z. StateOver P z first (crash.last_told s (filter (crash.tells_member_state many logs a) rs))) (append_assoc front (r ∷ []) (all_told rs))
-    (over_written P many a logs first rs (front ++ r ∷ []) s i h.1 (over_quiet P front (r ∷ []) first s (i.infos (bid_of k) (actors_of actors) (tids_of tids), tt) o))
+    (over_written P many a logs first rs (front ++ r ∷ []) s i h.1 (over_quiet P front (r ∷ []) first s (i.infos (bid_of k) (actor_ids actors) (tids_of tids), tt) o))
 over_written P many a logs first (machine.BatchDone k vs ∷ rs) front s i h o =
     let r = BatchDone (bid_of k) vs in
     subst (λ z. StateOver P z first (crash.last_told s (filter (crash.tells_member_state many logs a) rs))) (append_assoc front (r ∷ []) (all_told rs))
     (over_written P many a logs first rs (front ++ r ∷ []) s i h.1 (over_quiet P front (r ∷ []) first s (i.commits (bid_of k) vs, tt) o))
 over_written P many a logs first (machine.ActDone t m c v actors ∷ rs) front s i h o =
-    let r = ActDone (tid_of t) (bid_of m) c v (actors_of actors) in
+    let r = ActDone (tid_of t) (bid_of m) c v (actor_ids actors) in
     subst (λ z. StateOver P z first (crash.last_told s (filter (crash.tells_member_state many logs a) rs))) (append_assoc front (r ∷ []) (all_told rs))
-    (over_written P many a logs first rs (front ++ r ∷ []) s i h.1 (over_quiet P front (r ∷ []) first s (i.acts (tid_of t) (bid_of m) c v (actors_of actors), tt) o))
+    (over_written P many a logs first rs (front ++ r ∷ []) s i h.1 (over_quiet P front (r ∷ []) first s (i.acts (tid_of t) (bid_of m) c v (actor_ids actors), tt) o))
 over_written P many a logs first (machine.BatchComplete k c st ∷ rs) front s i h o = over_told P many a logs first (machine.BatchComplete k c st) rs (BatchComplete (bid_of k) (actor_of c) st) st front s refl (λ x. refl) h.0.0 h.0.1 (λ f t x. over_written P many a logs first rs f t i h.1 x) o
 over_written P many a logs first (machine.ActPrepare t c st ∷ rs) front s i h o = over_told P many a logs first (machine.ActPrepare t c st) rs (ActPrepare (tid_of t) (actor_of c) st) st front s refl (λ x. refl) h.0.0 h.0.1 (λ f t x. over_written P many a logs first rs f t i h.1 x) o
 
@@ -248,7 +248,7 @@ pub same_tids : (ts : List ℕ) → tid_numbers (tids_of ts) ≡ ts
 same_tids [] = refl
 same_tids (t ∷ ts) = ap (λ z. t ∷ z) (same_tids ts)
 
-pub same_actors : (as' : List ℕ) → actor_numbers (actors_of as') ≡ as'
+pub same_actors : (as' : List ℕ) → actor_numbers (actor_ids as') ≡ as'
 same_actors [] = refl
 same_actors (a ∷ as') = ap (λ z. a ∷ z) (same_actors as')
 

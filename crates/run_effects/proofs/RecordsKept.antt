@@ -16,7 +16,7 @@ use Rattle.protocol.specs.Runs.{EachAllowed, IsRun, opening, reached, state_afte
 use Rattle.protocol.specs.Words.{act_of, batch_of, is_value, value_of, values_of}
 use Rattle.protocol_laws.proofs.first.PairsFound.{found_tid}
 use Rattle.record_log.specs.Growth.{all_records}
-use Rattle.snap_hand.specs.log_set.Told.{actor_of, actors_of, all_told, bid_of, tids_of, told}
+use Rattle.snap_hand.specs.log_set.Told.{actor_of, actor_ids, all_told, bid_of, tids_of, told}
 use Rattle.record_log.specs.txn_records.declared.records.Record.{Record}
 use Rattle.record_log.specs.txn_records.Records.{IsRecord, actor_numbers, tid_numbers}
 use Rattle.run_effects.specs.Groups.{durable, groups_of}
@@ -46,7 +46,7 @@ one_more s l rs is h = all_set LogHolds s.logs l (added rs (log_at s l)) (all_jo
 
 -- ---- what each event adds
 
-numbers_back : (ns : List ℕ) → actor_numbers (actors_of ns) ≡ ns
+numbers_back : (ns : List ℕ) → actor_numbers (actor_ids ns) ≡ ns
 numbers_back [] = refl
 numbers_back (n ∷ ns) = rw (numbers_back ns) refl
 
@@ -54,7 +54,7 @@ tids_back : (ts : List ℕ) → tid_numbers (tids_of ts) ≡ ts
 tids_back [] = refl
 tids_back (t ∷ ts) = rw (tids_back ts) refl
 
-longer : (ns : List ℕ) → length (actors_of ns) ≡ length ns
+longer : (ns : List ℕ) → length (actor_ids ns) ≡ length ns
 longer [] = refl
 longer (n ∷ ns) = rw (longer ns) refl
 
@@ -86,7 +86,7 @@ decided_is t c acts fit h = by (act_of t acts) refl (all_found ActFits (λ x. x.
 event_tells : {C : Type 0} (w : Fixed C) (Met : C → Type 0) (e : Event) (s : Machine C) → IsAllowed w e s → RowsMay w s → Keeps Met s → ResultsFit s → LogsHold s → LogsHold (after w e s)
 unfolding LogsHold LogHolds IsTold after
 event_tells w Met (Form k) s ok may kept fit h =
-    one_more s (k % w.text.logs) _ (may.tells_info k ok (bid_of k) (actors_of (next_actors w.text s.ring)) (tids_of (map (λ p. p.tid) (next_pacts w.text s.ring))) refl (numbers_back (next_actors w.text s.ring)) (tids_back (map (λ p. p.tid) (next_pacts w.text s.ring))), tt) h
+    one_more s (k % w.text.logs) _ (may.tells_info k ok (bid_of k) (actor_ids (next_actors w.text s.ring)) (tids_of (map (λ p. p.tid) (next_pacts w.text s.ring))) refl (numbers_back (next_actors w.text s.ring)) (tids_back (map (λ p. p.tid) (next_pacts w.text s.ring))), tt) h
 event_tells w Met (Complete k a) s ok may kept fit h =
     one_more s (a % w.text.logs) _ (may.tells_complete k a ok (bid_of k) (actor_of a) (cell_at s a).state refl refl (all_get (CellKeeps Met) s.cells a _ (none_keeps Met) kept.cells).state, tt) h
 event_tells w Met (Sync l) s ok may kept fit h = all_set LogHolds s.logs l (synced (log_at s l)) (log_here s l h) h

@@ -9,7 +9,7 @@ use Rattle.snap_base.specs.declared.transactions.State.{State}
 use Rattle.protocol.specs.Records.{LogRecord, BatchInfo, BatchComplete, BatchDone, ActPrepare, ActDone}
 use Rattle.record_log.specs.txn_records.Records.{field_bytes, state_bytes, actors_bytes, tids_bytes, info_bytes, complete_bytes, prepare_bytes, values_bytes, done_bytes, act_done_bytes, record_bytes, IsState, IsInfo, IsDone, IsActDone, IsRecord}
 use Rattle.record_log.proofs.txn_records.RecordSizes.{field_size, fields_size, state_size, actors_size, tids_size}
-use Rattle.snap_hand.specs.log_set.Told.{told, bid_of, tid_of, actor_of, tids_of, actors_of}
+use Rattle.snap_hand.specs.log_set.Told.{told, bid_of, tid_of, actor_of, tids_of, actor_ids}
 use Rattle.run_effects.specs.Sizes.{longest_told}
 
 -- ---- one record, of which the longest is an info
@@ -47,8 +47,8 @@ act_size tid m c value actors is =
     omega (arith, all, length-append (field_bytes value) behind, field_size value, two, actors_size actors, is.few)
 
 pub told_size : (r : LogRecord) → IsRecord (told r) → length (record_bytes (told r)) ≤ longest_told
-told_size (BatchInfo bid actors tids) is = info_size (bid_of bid) (actors_of actors) (tids_of tids) is
+told_size (BatchInfo bid actors tids) is = info_size (bid_of bid) (actor_ids actors) (tids_of tids) is
 told_size (BatchComplete bid actor state) is = complete_size (bid_of bid) (actor_of actor) state is.is_state
 told_size (BatchDone bid values) is = done_size (bid_of bid) values is
 told_size (ActPrepare tid actor state) is = prepare_size (tid_of tid) (actor_of actor) state is.is_state
-told_size (ActDone tid m c value actors) is = act_size (tid_of tid) (bid_of m) c value (actors_of actors) is
+told_size (ActDone tid m c value actors) is = act_size (tid_of tid) (bid_of m) c value (actor_ids actors) is

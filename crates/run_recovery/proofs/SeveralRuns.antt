@@ -31,7 +31,7 @@ use Rattle.run_recovery.specs.Next.{GoesOnFrom, opening_left, records_left}
 use Rattle.run_recovery.specs.OneRun.{TheRun, MomentOf, the_run}
 use Rattle.run_recovery.specs.Runs.{HasRun, machine_of}
 use Rattle.run_recovery.specs.Schedules.{Schedule}
-use Rattle.run_recovery.specs.Several.{AddsMembers, BeganOn, Crash, CutOff, EachIsBehind, Early, FindsRunsLogs, GoOn, IsBehind, Left, LeftBy, OfNext, ValuesStand, Within, added_by, bytes_left}
+use Rattle.run_recovery.specs.Several.{AddsMembers, BeganOn, Crash, CutOff, EachIsBehind, Early, FindsRunsLogs, GoOn, IsBehindCutOff, Left, LeftBy, OfNext, ValuesStand, Within, added_by, bytes_left}
 use Rattle.run_recovery.specs.Unbegun.{AreKept}
 use Rattle.run_recovery.proofs.CallsKept.{CallsKeep}
 use Rattle.run_recovery.proofs.LogsLeft.{first_long}
@@ -159,7 +159,7 @@ start_begins : (logs : List (List Record)) (states : List State) (o : Opening) (
 start_begins logs states o added (inl new) = inl (new.0, new.1)
 start_begins logs states o added (inr on) = inr on.0
 
-began_on : NextLaws → (x y : CutOff) (crash : Crash (the_run x.run) x.images) (left : Left x crash) → IsBehind x y → BeganOn left y
+began_on : NextLaws → (x y : CutOff) (crash : Crash (the_run x.run) x.images) (left : Left x crash) → IsBehindCutOff x y → BeganOn left y
 began_on laws x y crash left behind = record {
   records = same;
   opening = left.alone y.opening
@@ -177,7 +177,7 @@ began_on laws x y crash left behind = record {
     same : y.run.devices.records ≡ left.records
     same = same_lists_at y.run.devices.records left.records (y.run.devices.as_many ∙ (behind.logs ∙ sym left.as_many)) (λ l lt. at l (omega (arith, lt, y.run.devices.as_many, behind.logs)))
 
-next_began : NextLaws → (x : CutOff) (crash : Crash (the_run x.run) x.images) (left : Left x crash) (xs : List CutOff) → OfNext (IsBehind x) xs → OfNext (BeganOn left) xs
+next_began : NextLaws → (x : CutOff) (crash : Crash (the_run x.run) x.images) (left : Left x crash) (xs : List CutOff) → OfNext (IsBehindCutOff x) xs → OfNext (BeganOn left) xs
 next_began laws x crash left [] behind = tt
 next_began laws x crash left (y ∷ ys) behind = began_on laws x y crash left behind
 

@@ -52,7 +52,7 @@ abbrev pub bytes_left : CutOff → ℕ → List ℕ
 bytes_left x = left_last x.images x.calls
 
 -- y is of as many logs and of the same states as x, and its devices told the bytes that were left behind x
-pub record IsBehind (x y : CutOff) : Type 0 where
+pub record IsBehindCutOff (x y : CutOff) : Type 0 where
   pub logs : y.work.logs ≡ x.work.logs
   pub states : y.work.states ≡ x.work.states
   pub told : TellBytes x.work.logs y.before (bytes_left x)
@@ -65,7 +65,7 @@ OfNext P (y ∷ ys) = P y
 -- each is behind the one before it
 abbrev pub EachIsBehind : List CutOff → Type 0
 EachIsBehind [] = ⊤
-EachIsBehind (x ∷ xs) = OfNext (IsBehind x) xs × EachIsBehind xs
+EachIsBehind (x ∷ xs) = OfNext (IsBehindCutOff x) xs × EachIsBehind xs
 
 -- ---- what it left
 

@@ -20,7 +20,7 @@ use Rattle.run_recovery.specs.OneRun.{the_run}
 use Rattle.run_recovery.specs.Stands.{RunStands}
 use Rattle.run_work.proofs.Ending.{StopsAtFault, untraced_of}
 use Rattle.run_work.specs.Hosts.{LeftFailed, HasHosted}
-use Rattle.run_work.specs.Runs.{Printing, Ran, AllReplied, HasFailed, IsAnswerOf, LogRose, PrintsFailed, IsOfLogs, printed_of}
+use Rattle.run_work.specs.Runs.{Printing, Ran, EachHasReply, HasFailed, IsAnswerOf, LogRose, PrintsFailed, IsOfLogs, printed_of}
 use Rattle.run_work.specs.Statuses.{logs_status}
 use Rattle.run_work.specs.Untraced.{IsRunEnd, RunLeft, IsNoBeginning, IsUntraced, IsTraced, EndsUntraced, IsCallEnd}
 use Rattle.run_work.specs.declared.hosts.Hosted.{Hosted}
@@ -62,11 +62,11 @@ EachStands r = (o : Opening) (failed : ℕ → Bool) (run : HasRun r.work r.sche
 
 -- what the law marks_are_replies says
 abbrev pub MarksAreReplies : Type 0
-MarksAreReplies = (m : Fixed Rest) (es : List machine.Event) → list_all (λ r. r) (reached m es).desk.replied ≡ true → AllReplied (length m.text.txs) es
+MarksAreReplies = (m : Fixed Rest) (es : List machine.Event) → list_all (λ r. r) (reached m es).desk.replied ≡ true → EachHasReply (length m.text.txs) es
 
 -- where a run has ended, each transaction has its Reply
 all_replied : (r : Ran) → EachStands r → MarksAreReplies → (o : Opening) (failed : ℕ → Bool) → HasRun r.work r.schedule o (meant r.kept) failed r.devices_before r.devices_after
-    → HasEnded r.work o (meant r.kept) → AllReplied (length r.work.txs) (meant r.kept)
+    → HasEnded r.work o (meant r.kept) → EachHasReply (length r.work.txs) (meant r.kept)
 all_replied r stands marks o failed run ended = marks (machine_of r.work o) (meant r.kept) ((stands o failed run).answered ended).0.replied
 
 -- the log that the status names is one of the work's, and its count rose

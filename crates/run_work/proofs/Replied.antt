@@ -11,7 +11,7 @@ use Rattle.protocol.specs.Fixed.{Fixed}
 use Rattle.protocol.specs.Parts.{Machine}
 use Rattle.protocol.specs.Report.{replied}
 use Rattle.protocol.specs.Runs.{opening, reached, state_after}
-use Rattle.run_work.specs.Runs.{AllReplied}
+use Rattle.run_work.specs.Runs.{EachHasReply}
 
 -- what an event may not change is the same after it
 abbrev pub Frames : (C : Type 0) → Type 0
@@ -58,7 +58,7 @@ marked_at marks n lt all = by (get_or marks n false) refl
     by true is = is
     by false is = absurd (true≢false (sym all ∙ list_all_at (λ r. r) marks n false lt is))
 
-pub all_replied : {C : Type 0} (w : Fixed C) (es : List Event) → Frames C → list_all (λ r. r) (reached w es).desk.replied ≡ true → AllReplied (length w.text.txs) es
+pub all_replied : {C : Type 0} (w : Fixed C) (es : List Event) → Frames C → list_all (λ r. r) (reached w es).desk.replied ≡ true → EachHasReply (length w.text.txs) es
 all_replied w es frame all n lt =
     let marks = (reached w es).desk.replied in
     let many : length marks ≡ length w.text.txs = as_many w frame es (opening w) ∙ length-replicate (length w.text.txs) false in

@@ -108,12 +108,12 @@ abbrev pub PrintsFailed : ℕ → Printed → Type 0
 PrintsFailed log d = FailsBy d.schedule log d
 
 -- each of so many transactions has its Reply among these events
-abbrev pub AllReplied : ℕ → List machine.Event → Type 0
-AllReplied count es = (n : ℕ) → n < count → Contains (replied es) n
+abbrev pub EachHasReply : ℕ → List machine.Event → Type 0
+EachHasReply count es = (n : ℕ) → n < count → Contains (replied es) n
 
 -- no event is allowed any more, and each transaction has its Reply among the events
 abbrev pub HasAnswered : Work → Opening → List machine.Event → Type 0
-HasAnswered w o es = HasEnded w o es × AllReplied (length w.txs) es
+HasAnswered w o es = HasEnded w o es × EachHasReply (length w.txs) es
 
 -- ---- the answers
 

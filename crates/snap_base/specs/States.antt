@@ -19,3 +19,7 @@ actor_numbers actors = map (λ (a : ActorId). a.0) actors
 -- the numbers of the transactions, in order
 abbrev pub tid_numbers : List Tid → List ℕ
 tid_numbers tids = map (λ (t : Tid). t.0) tids
+
+-- the transaction with this number
+abbrev pub tid_of : ℕ → Tid
+tid_of n = record { 0 = n }

@@ -1,5 +1,6 @@
 -- What stands at a number: in a list that reaches it or not, and at the numbers of a footprint.
 use Rattle.std.specs.Prelude.{◌≡◌, ◌≢◌, ℕ, zero, suc, ◌+◌, ◌<◌, Bool, true, false, List, [], ◌∷◌, Option, Some, None, IsSome, map, length, slice_index, slice_set, slice_get, nat_eq, nat_lt, ⊤}
+pub use Rattle.snap_base.specs.Numbers.{total}
 
 -- 1 where the test is true, and else 0
 abbrev pub count_if : Bool → ℕ
@@ -10,11 +11,6 @@ count_if false = 0
 abbrev pub one : {P : Type 0} → Option P → ℕ
 one None = 0
 one (Some p) = 1
-
--- f of each, added up
-abbrev pub total : {V : Type 0} → (V → ℕ) → List V → ℕ
-total f [] = 0
-total f (v ∷ vs) = f v + total f vs
 
 module _ {P : Type 0} where
   -- what the list holds at a number, and nothing past its end

@@ -18,7 +18,7 @@ use Rattle.protocol.specs.OnCell as cell
 use Rattle.protocol.specs.OnCell.{is_cut}
 use Rattle.protocol.specs.History.{History, Slice, Ran, Stands, Gone, grown, with_at, read_on, view_in, last_left, is_reader_act, without_standing, long_staying}
 use Rattle.protocol_laws.specs.Tracks.{key_of, keys_in, is_key_among, Differ, slices_in, InOrder, has_read}
-use Rattle.protocol_laws.specs.Sees.{blocks_readers, HasNotRead, Seen, SeesAt}
+use Rattle.protocol_laws.specs.Sees.{blocks_readers, HasNotRead, ReadersFound, SeesAt}
 use Rattle.protocol_laws.specs.Turns.{Turns}
 use Rattle.protocol_laws.proofs.first.Lists.{all_filter, all_join, weaker}
 use Rattle.protocol_laws.proofs.machine.TrackLists
@@ -99,7 +99,7 @@ pub none_seen : (now : State) (t : ℕ) (zs : List Slice) → has_read zs t ≡ 
 none_seen now t [] h = tt
 none_seen now t (z ∷ zs) h = let p = or_parts (z.tid == t) (has_read zs t) h in ((λ i. absurd (true≢false (sym (eq-eqb z.tid t i) ∙ p.0))), none_seen now t zs p.1)
 
-unseen : (now : State) (reads : List Slice) (e : Entry) → HasNotRead reads e → Seen now reads e
+unseen : (now : State) (reads : List Slice) (e : Entry) → HasNotRead reads e → ReadersFound now reads e
 unseen now reads (BatchEntry b) h = tt
 unseen now reads (ActEntry x) h = λ q. none_seen now x.tid reads (h q)
 
@@ -147,7 +147,7 @@ staying now reads cs (e ∷ es) h = by (is_cut cs (who_of e)) (staying now reads
 
 -- marks: what does not block goes on not blocking
 abbrev IsMark : (Entry → Entry) → Type 0
-IsMark f = (e : Entry) → ((reads : List Slice) → HasNotRead reads e → HasNotRead reads (f e)) × ((now : State) (reads : List Slice) → Seen now reads e → Seen now reads (f e)) × (blocks_readers (f e) ≡ true → blocks_readers e ≡ true)
+IsMark f = (e : Entry) → ((reads : List Slice) → HasNotRead reads e → HasNotRead reads (f e)) × ((now : State) (reads : List Slice) → ReadersFound now reads e → ReadersFound now reads (f e)) × (blocks_readers (f e) ≡ true → blocks_readers e ≡ true)
 
 none_marked : (reads : List Slice) (f : Entry → Entry) (es : List Entry) → IsMark f → AllByRecursion (HasNotRead reads) es → AllByRecursion (HasNotRead reads) (map f es)
 none_marked reads f [] k h = tt
@@ -179,7 +179,7 @@ read_others : (zs : List Slice) (x : Slice) (u : ℕ) → (x.tid == u) ≡ false
 read_others [] x u e h = or_from (x.tid == u) false e refl
 read_others (z ∷ zs) x u e h = let p = or_parts (z.tid == u) (has_read zs u) h in or_from (z.tid == u) (has_read (zs ++ x ∷ []) u) p.0 (read_others zs x u e p.1)
 
-seen_more : (now : State) (zs : List Slice) (x : Slice) (e : Entry) → x.found ≡ now → x.left ≡ now → Seen now zs e → Seen now (zs ++ x ∷ []) e
+seen_more : (now : State) (zs : List Slice) (x : Slice) (e : Entry) → x.found ≡ now → x.left ≡ now → ReadersFound now zs e → ReadersFound now (zs ++ x ∷ []) e
 seen_more now zs x (BatchEntry b) f l h = tt
 seen_more now zs x (ActEntry y) f l h = λ q. all_join _ zs (x ∷ []) (h q) ((λ i. (f, l)), tt)
 

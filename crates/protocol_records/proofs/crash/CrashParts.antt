@@ -21,7 +21,7 @@ use Rattle.protocol_laws.specs.Commits.{is_kept, StatesLink, last_state}
 use Rattle.protocol_theorems.specs.Order.{LeavesIt}
 use Rattle.protocol.specs.Chains.{serial_run}
 use Rattle.protocol.specs.Moments.{IsCut, left_in}
-use Rattle.protocol_records.specs.Logged.{durable_at, logged_at, is_sure, is_written, Written, BatchesSure, Infos, InfoIs, ActsSure, ActCommits, AllGoneSure, AllKeptSure, AllThere, AllHaveRead, AllDoneSure, ActsStand, OnJoined, Prepared, is_on}
+use Rattle.protocol_records.specs.Logged.{durable_at, logged_at, is_sure, is_written, WrittenHaveValues, BatchesSure, Infos, InfoIs, ActsSure, ActCommits, AllGoneSure, AllKeptSure, AllThere, AllHaveRead, AllDoneSure, ActsStand, OnJoined, Prepared, is_on}
 use Rattle.protocol_records.specs.Telling.{One, told_states, AllTells, Telling, last_one, writes, Recovers, ToldRead, ToldReads, is_uncommitted_writer, NoneLater, AllNoneLater, AllAside}
 use Rattle.protocol_records.specs.Crash.{is_in, tells_member_state, last_told, recovered_state, members, NoneMissed}
 use Rattle.protocol_laws.proofs.machine.Good.{Given}
@@ -48,7 +48,7 @@ use Rattle.protocol_laws.proofs.first.Lists.{all_filter, any_take, filter_join}
 -- ---- all of it, along a run
 
 pub record Logs {C : Type 0} (w : Fixed C) (s : Machine C) (h : History) : Type 0 where
-  pub written : Written w s h
+  pub written : WrittenHaveValues w s h
   pub batches : BatchesSure w s
   pub infos : Infos s
   pub filled : Filled s
@@ -88,7 +88,7 @@ pub none_logged : (p : LogRecord → Bool) (n l : ℕ) → logged_at p (replicat
 none_logged p n l h = true≢false (sym h ∙ ap (list_any p) (no_records n l))
 
 pub logs_opened : {C : Type 0} (w : Fixed C) → Logs w (opening w) no_history
-unfolding Written BatchesSure Infos Filled ActsSure ActCommits AllGoneSure AllKeptSure AllThere AllDoneSure ActsStand OnJoined Prepared Telling Recovers
+unfolding WrittenHaveValues BatchesSure Infos Filled ActsSure ActCommits AllGoneSure AllKeptSure AllThere AllDoneSure ActsStand OnJoined Prepared Telling Recovers
 logs_opened w = record {
   written = λ y e. none y e;
   batches = λ k b e. absurd (cc e);
@@ -129,8 +129,8 @@ sure_in w s kept (OfBatch k) c h = durable_in s kept (is_commit k) (k % w.text.l
 sure_in w s kept (OfAct t) c h = durable_in s kept (is_act_commit t) (t % w.text.logs) c h
 
 -- who is in committed with a value
-pub in_kept : {C : Type 0} (w : Fixed C) (s : Machine C) (h : History) (kept : ℕ → ℕ) (y : Who) → Written w s h → is_in w.text.logs (left_in s kept) y ≡ true → (is_kept y h.kept || is_kept y h.kept_readers) ≡ true
-unfolding Written
+pub in_kept : {C : Type 0} (w : Fixed C) (s : Machine C) (h : History) (kept : ℕ → ℕ) (y : Who) → WrittenHaveValues w s h → is_in w.text.logs (left_in s kept) y ≡ true → (is_kept y h.kept || is_kept y h.kept_readers) ≡ true
+unfolding WrittenHaveValues
 in_kept w s h kept (OfBatch k) g e = g (OfBatch k) (any_take (is_commit k) (kept (k % w.text.logs)) (log_at s (k % w.text.logs)).records e)
 in_kept w s h kept (OfAct t) g e = g (OfAct t) (any_take (is_act_commit t) (kept (t % w.text.logs)) (log_at s (t % w.text.logs)).records e)
 

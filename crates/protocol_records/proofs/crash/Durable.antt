@@ -12,7 +12,7 @@ use Rattle.protocol.specs.Words.{is_who, is_value, is_durable, holds, act_of, va
 use Rattle.protocol.specs.Effects.{after, no_log, added, synced, act_commit}
 use Rattle.protocol.specs.History.{History, grown, kept_act, kept_reader}
 use Rattle.protocol_laws.specs.Commits.{is_kept}
-use Rattle.protocol_records.specs.Logged.{durable_at, logged_at, is_sure, Written}
+use Rattle.protocol_records.specs.Logged.{durable_at, logged_at, is_sure, WrittenHaveValues}
 use Rattle.protocol_laws.proofs.first.Lists.{any_front, any_join, any_take}
 use Rattle.protocol_laws.proofs.machine.MarksKept.{log_synced}
 
@@ -111,8 +111,8 @@ no_batch_in k c (Some x) h = by (is_value x.result) h
     by true g = true≢false (sym g)
     by false g = true≢false (sym g)
 
-pub written_kept : {C : Type 0} (w : Fixed C) (e : Event) (s : Machine C) (h : History) → Written w s h → Written w (after w e s) (grown w e s h)
-unfolding Written after grown
+pub written_kept : {C : Type 0} (w : Fixed C) (e : Event) (s : Machine C) (h : History) → WrittenHaveValues w s h → WrittenHaveValues w (after w e s) (grown w e s h)
+unfolding WrittenHaveValues after grown
 written_kept w (Form k) s h g (OfBatch j) q = elim (logged_added (is_commit j) _ s.logs (k % w.text.logs) (j % w.text.logs) q) [ inl v ↦ g (OfBatch j) v | inr v ↦ absurd (true≢false (sym v)) ]
 written_kept w (Form k) s h g (OfAct u) q = elim (logged_added (is_act_commit u) _ s.logs (k % w.text.logs) (u % w.text.logs) q) [ inl v ↦ g (OfAct u) v | inr v ↦ absurd (true≢false (sym v)) ]
 written_kept w (Complete k a) s h g (OfBatch j) q = elim (logged_added (is_commit j) _ s.logs (a % w.text.logs) (j % w.text.logs) q) [ inl v ↦ g (OfBatch j) v | inr v ↦ absurd (true≢false (sym v)) ]

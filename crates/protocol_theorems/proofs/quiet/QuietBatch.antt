@@ -16,7 +16,7 @@ use Rattle.protocol.specs.Effects.{cell_at, log_at, no_cell}
 use Rattle.protocol.specs.Runs.{IsQuiet}
 use Rattle.protocol_laws.specs.FromDesk.{is_pact_of}
 use Rattle.protocol_laws.proofs.machine.TurnsKept.{one_is}
-use Rattle.protocol_theorems.specs.Quiet.{Orderly, IsLiveBatch, ControlIsAt, is_waiting_act, BatchesRise}
+use Rattle.protocol_theorems.specs.Quiet.{Orderly, IsLiveBatch, ControlIsAt, is_waiting_act, NumbersRise}
 use Rattle.protocol_theorems.specs.Waits.{IsPending, is_ahead, StandsAhead, IsOpenBatch, WaitsFor}
 use Rattle.protocol_theorems.proofs.quiet.QuietEasy.{passes, there, any_at, all_in, list_all_of, found_at, false_not, durable, up_to_date, no_outcome, no_aborted_sub, has_left, not_committing, settled_is_trimmed}
 
@@ -102,7 +102,7 @@ first_of w s k a q o l r h = by (cell_at s a).entries refl h
     by (BatchEntry b ∷ es) e g = elim (or_cases (b.bid == k) (is_among k (batches_on es)) g) [
       | inl i ↦ (b, es, e, eqb-true b.bid k i)
       | inr i ↦
-          let rises = subst (λ z. BatchesRise (batches_on z)) e (o.batches.rises a) in
+          let rises = subst (λ z. NumbersRise (batches_on z)) e (o.batches.rises a) in
           let on : is_among b.bid (batches_on (cell_at s a).entries) ≡ true = subst (λ z. is_among b.bid (batches_on z) ≡ true) (sym e) (rw (eq-eqb b.bid b.bid refl) refl) in
           absurd (l.batches b.bid (rises.0 k i) (let v = o.batches.present a b.bid now on in open_live w s o b.bid a v (o.batches.on_schedule b.bid a v on)))
     ]

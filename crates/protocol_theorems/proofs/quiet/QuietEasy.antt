@@ -13,7 +13,7 @@ use Rattle.protocol.specs.Words.{holds, is_aborted, is_doomed, is_sealed, is_dec
 use Rattle.protocol.specs.Conditions.{conditions, epoch}
 use Rattle.protocol.specs.Effects.{cell_at, log_at, no_cell, no_log}
 use Rattle.protocol.specs.Runs.{IsQuiet}
-use Rattle.protocol_theorems.specs.Quiet.{Found, Written}
+use Rattle.protocol_theorems.specs.Quiet.{AreFoundByNumber, MarksAreWritten}
 
 -- ---- tests
 
@@ -134,11 +134,11 @@ has_left w s q t a x p e d j = elim (cases_Bool p.finished) [
   | inr f ↦ absurd (q (Finish t a) (passes (λ x. is_doomed x.status || is_sealed x.status) (act_of t s.book.acts) x e d, (passes (λ x. holds (λ p. not p.finished) (joined_of a x)) (act_of t s.book.acts) x e (passes (λ p. not p.finished) (joined_of a x) p j (false_not p.finished f)), tt)))
 ]
 
-pub all_left : {C : Type 0} (w : Fixed C) (s : Machine C) → IsQuiet w s → Found w s → (t : ℕ) (x : Act) → act_of t s.book.acts ≡ Some x → (is_doomed x.status || is_sealed x.status) ≡ true → list_all (λ p. p.finished) x.places ≡ true
+pub all_left : {C : Type 0} (w : Fixed C) (s : Machine C) → IsQuiet w s → AreFoundByNumber w s → (t : ℕ) (x : Act) → act_of t s.book.acts ≡ Some x → (is_doomed x.status || is_sealed x.status) ≡ true → list_all (λ p. p.finished) x.places ≡ true
 all_left w s q f t x e d = list_all_of (λ p. p.finished) x.places (λ i p g n. true≢false (sym (has_left w s q t p.actor x p e d (each_found (λ p. joined_of p.actor x ≡ Some p) x.places i p g (f.joined t x e))) ∙ n))
 
 -- who is doomed is not live
-pub doomed_is_over : {C : Type 0} (w : Fixed C) (s : Machine C) → IsQuiet w s → Found w s → (t : ℕ) (x : Act) → act_of t s.book.acts ≡ Some x → is_doomed x.status ≡ true → is_live_act x ≡ false
+pub doomed_is_over : {C : Type 0} (w : Fixed C) (s : Machine C) → IsQuiet w s → AreFoundByNumber w s → (t : ℕ) (x : Act) → act_of t s.book.acts ≡ Some x → is_doomed x.status ≡ true → is_live_act x ≡ false
 doomed_is_over w s q f t x e d = by (is_empty x.places)
   where
     by : (b : Bool) → not (if b then is_doomed x.status else list_all (λ p. p.finished) x.places) ≡ false
@@ -147,14 +147,14 @@ doomed_is_over w s q f t x e d = by (is_empty x.places)
 
 -- ---- nobody is just decided, or commits
 
-pub not_decided : {C : Type 0} (w : Fixed C) (s : Machine C) → IsQuiet w s → Written w s → 1 ≤ w.text.logs → (t : ℕ) (x : Act) → act_of t s.book.acts ≡ Some x → is_decided x.status ≡ false
+pub not_decided : {C : Type 0} (w : Fixed C) (s : Machine C) → IsQuiet w s → MarksAreWritten w s → 1 ≤ w.text.logs → (t : ℕ) (x : Act) → act_of t s.book.acts ≡ Some x → is_decided x.status ≡ false
 unfolding conditions
 not_decided w s q r l t x e = elim (cases_Bool (is_decided x.status)) [
   | inl d ↦ absurd (q (Seal t) (passes (λ x. is_decided x.status) (act_of t s.book.acts) x e d, (durable w s q r.logs l t (is_act_commit t) (r.act_commit t x e d), tt)))
   | inr d ↦ d
 ]
 
-pub not_committing : {C : Type 0} (w : Fixed C) (s : Machine C) → IsQuiet w s → Written w s → 1 ≤ w.text.logs → (k : ℕ) (b : Batch) → batch_of k s.desk.batches ≡ Some b → b.aborted ≡ false → is_committing b.stage ≡ false
+pub not_committing : {C : Type 0} (w : Fixed C) (s : Machine C) → IsQuiet w s → MarksAreWritten w s → 1 ≤ w.text.logs → (k : ℕ) (b : Batch) → batch_of k s.desk.batches ≡ Some b → b.aborted ≡ false → is_committing b.stage ≡ false
 unfolding conditions
 not_committing w s q r l k b e n = elim (cases_Bool (is_committing b.stage)) [
   | inl d ↦ absurd (q (Settle k) (passes (λ b. is_committing b.stage && not b.aborted) (batch_of k s.desk.batches) b e (rw (d, n) refl), (durable w s q r.logs l k (is_commit k) (r.commit k b e d), tt)))
@@ -162,7 +162,7 @@ not_committing w s q r l k b e n = elim (cases_Bool (is_committing b.stage)) [
 ]
 
 -- who is settled is trimmed everywhere
-pub settled_is_trimmed : {C : Type 0} (w : Fixed C) (s : Machine C) → IsQuiet w s → Found w s → (k : ℕ) (b : Batch) → batch_of k s.desk.batches ≡ Some b → b.aborted ≡ false → is_settled b.stage ≡ true → list_all (λ p. p.trimmed) b.places ≡ true
+pub settled_is_trimmed : {C : Type 0} (w : Fixed C) (s : Machine C) → IsQuiet w s → AreFoundByNumber w s → (k : ℕ) (b : Batch) → batch_of k s.desk.batches ≡ Some b → b.aborted ≡ false → is_settled b.stage ≡ true → list_all (λ p. p.trimmed) b.places ≡ true
 unfolding conditions
 settled_is_trimmed w s q f k b e n d = list_all_of (λ p. p.trimmed) b.places (λ i p g z.
     q (Trim k p.actor) (passes (λ b. is_settled b.stage && (not b.aborted && holds (λ x. not x.trimmed) (declared_of p.actor b))) (batch_of k s.desk.batches) b e (rw (d, n) (passes (λ x. not x.trimmed) (declared_of p.actor b) p (each_found (λ p. (declared_of p.actor b ≡ Some p) × (p.actor < length s.cells)) b.places i p g (f.declared k b e)).0 (false_not p.trimmed z))), tt))

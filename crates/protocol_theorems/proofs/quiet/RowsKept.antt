@@ -20,7 +20,7 @@ use Rattle.protocol.specs.OnCell as cell
 use Rattle.protocol.specs.History.{Ran, Stands, long_staying, batches_in}
 use Rattle.protocol_laws.specs.Tracks.{key_of, keys_in, is_key_among, Differ}
 use Rattle.protocol_laws.specs.Places.{has_gone, FirmUpToGone, Places}
-use Rattle.protocol_theorems.specs.Quiet.{BatchesRise}
+use Rattle.protocol_theorems.specs.Quiet.{NumbersRise}
 use Rattle.protocol_laws.specs.FromDesk.{FromDesk}
 use Rattle.protocol_laws.proofs.first.EpochsKept as epochs
 use Rattle.protocol_laws.proofs.first.SettlingKept as settling
@@ -202,11 +202,11 @@ rows_opened {C} w = λ a. empty_row _ _ _ _ _ (cell_at (opening w) a).entries (n
 
 -- ---- for quiet states
 
-rises_of : (ks : List ℕ) → Ascends ks → BatchesRise ks
+rises_of : (ks : List ℕ) → Ascends ks → NumbersRise ks
 rises_of [] h = tt
 rises_of (k ∷ ks) h = (λ j i. among_all (λ j. k < j) j ks i h.0, rises_of ks h.1)
 
-pub rises : {C : Type 0} (s : Machine C) → Rows s → (a : ℕ) → BatchesRise (batches_on (cell_at s a).entries)
+pub rises : {C : Type 0} (s : Machine C) → Rows s → (a : ℕ) → NumbersRise (batches_on (cell_at s a).entries)
 unfolding Rows
 rises s h a = rises_of (batches_on (cell_at s a).entries) (subst Ascends (row_batches (cell_at s a).entries) (h a).places.ascends)
 
