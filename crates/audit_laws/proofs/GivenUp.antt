@@ -88,7 +88,7 @@ live_is (Decided c) = refl
 live_is (Sealed c) = refl
 
 -- the sets cross where the numbers do, which of a live one are their ends
-pub seen_crossing : (t : Seen) (u : ℕ) (x : Act) → was_given_up t.dooms u ≡ is_doomed x.status → has_its_place (OfAct u) t.members ≡ is_ordered x.status → (is_live_status x.status ≡ true → (x.m ≡ greatest (t.before u)) × (x.n ≡ least (t.behind u))) → sets.was_crossed t u ≡ numbers.is_crossed x
+pub seen_crossing : (t : Seen) (u : ℕ) (x : Act) → was_given_up t.dooms u ≡ is_doomed x.status → has_its_place (OfAct u) t.members ≡ is_ordered x.status → (is_live_status x.status ≡ true → (x.m ≡ greatest (t.before u)) × (x.n ≡ least (t.behind u))) → sets.sets_cross t u ≡ numbers.is_crossed x
 seen_crossing t u x d o k = by (is_live_status x.status) refl
   where
     alive : is_live t u ≡ is_live_status x.status
@@ -104,18 +104,18 @@ seen_crossing t u x d o k = by (is_live_status x.status) refl
 
 -- ---- behind an event that places somebody
 
-pub crossed_told : (a u : ℕ) (t : Seen) (xs : List Act) → map (λ x. x.tid) t.acts ≡ map (λ x. x.tid) xs → was_given_up t.dooms u ≡ doomed_at xs u → ((x : Act) → act_of u xs ≡ Some x → sets.was_crossed t u ≡ numbers.is_crossed x)
+pub crossed_told : (a u : ℕ) (t : Seen) (xs : List Act) → map (λ x. x.tid) t.acts ≡ map (λ x. x.tid) xs → was_given_up t.dooms u ≡ doomed_at xs u → ((x : Act) → act_of u xs ≡ Some x → sets.sets_cross t u ≡ numbers.is_crossed x)
     → was_given_up (cross_out a t).dooms u ≡ doomed_at (map (crossed_out a) xs) u
 crossed_told a u t xs tids d k =
-    given_join u t.dooms (map (crossing a t) (filter (λ x. sets.was_crossed t x.tid) t.acts))
-    ∙ (ap (λ (b : Bool). b || was_given_up (map (crossing a t) (filter (λ x. sets.was_crossed t x.tid) t.acts)) u) d
+    given_join u t.dooms (map (crossing a t) (filter (λ x. sets.sets_cross t x.tid) t.acts))
+    ∙ (ap (λ (b : Bool). b || was_given_up (map (crossing a t) (filter (λ x. sets.sets_cross t x.tid) t.acts)) u) d
     ∙ (ap (λ (b : Bool). doomed_at xs u || b) rest ∙ sym (doomed_crossed a u xs)))
   where
-    by : (o : Option Act) → act_of u xs ≡ o → (is_some o && sets.was_crossed t u) ≡ holds numbers.is_crossed o
+    by : (o : Option Act) → act_of u xs ≡ o → (is_some o && sets.sets_cross t u) ≡ holds numbers.is_crossed o
     by None e = refl
     by (Some x) e = k x e
 
-    rest : was_given_up (map (crossing a t) (filter (λ x. sets.was_crossed t x.tid) t.acts)) u ≡ holds numbers.is_crossed (act_of u xs)
+    rest : was_given_up (map (crossing a t) (filter (λ x. sets.sets_cross t x.tid) t.acts)) u ≡ holds numbers.is_crossed (act_of u xs)
     rest =
-        given_made u (crossing a t) (sets.was_crossed t) t.acts (λ x. refl)
-        ∙ (ap (λ (ns : List ℕ). is_among u ns && sets.was_crossed t u) tids ∙ (ap (λ (b : Bool). b && sets.was_crossed t u) (act_among u xs) ∙ by (act_of u xs) refl))
+        given_made u (crossing a t) (sets.sets_cross t) t.acts (λ x. refl)
+        ∙ (ap (λ (ns : List ℕ). is_among u ns && sets.sets_cross t u) tids ∙ (ap (λ (b : Bool). b && sets.sets_cross t u) (act_among u xs) ∙ by (act_of u xs) refl))

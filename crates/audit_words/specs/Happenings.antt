@@ -12,7 +12,7 @@ use Rattle.protocol.specs.Verdicts.{pact_place, act_place}
 use Rattle.protocol.specs.Words.{is_among, is_who, least_older, greatest}
 use Rattle.protocol.specs.History.{with_at, behind_too, sets_of, gains_over}
 use Rattle.audit_words.specs.Seen.{Begun, Older, Crossed, Taken, Doom, Cut, Member, Seen, nothing_seen, batch_in, was_formed, goes_to, was_taken_along, is_one_of_these}
-use Rattle.audit_words.specs.Seen.{act_in, was_admitted, lock_in, was_given_up, has_its_place, is_live, acts_among, tail_behind, least, was_crossed, next_c}
+use Rattle.audit_words.specs.Seen.{act_in, was_admitted, lock_in, was_given_up, has_its_place, is_live, acts_among, tail_behind, least, sets_cross, next_c}
 
 -- ---- who is given up
 
@@ -26,7 +26,7 @@ crossing a s x = record { tid = x.tid; why = Crossed (greatest (s.before x.tid))
 
 -- at an event on actor a each ACT whose sets cross is given up
 abbrev pub cross_out : ℕ → Seen → Seen
-cross_out a s = give_up (map (crossing a s) (filter (λ x. was_crossed s x.tid) s.acts)) s
+cross_out a s = give_up (map (crossing a s) (filter (λ x. sets_cross s x.tid) s.acts)) s
 
 -- ---- an ACT begins
 

@@ -181,8 +181,8 @@ least [] = None
 least (k ∷ ks) = Some (least_of k (least ks))
 
 -- the ACT is live, and the greatest batch before it is not below the least behind it
-abbrev pub was_crossed : Seen → ℕ → Bool
-was_crossed s t = is_live s t && reaches (greatest (s.before t)) (least (s.behind t))
+abbrev pub sets_cross : Seen → ℕ → Bool
+sets_cross s t = is_live s t && reaches (greatest (s.before t)) (least (s.behind t))
 
 -- the number that the next Decide draws
 abbrev pub next_c : Text → Seen → ℕ

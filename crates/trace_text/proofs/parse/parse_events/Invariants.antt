@@ -1,6 +1,6 @@
 use Rattle.std.proofs.Common.{◌≡◌, ◌+◌, ◌≤◌, length}
 use Rattle.trace_text.proofs.Traces.{HasRead}
-use Rattle.trace_text.proofs.parse.parse_trace.Given as goal
+use Rattle.trace_text.proofs.parse.parse_events.Given as goal
 
 abbrev pub invariant-loop-rest : goal.invariant-loop-rest
 invariant-loop-rest l = record {
