@@ -10,7 +10,7 @@ use Rattle.aml_tokens.specs.Token as token
 use Rattle.aml_tree.specs.declared.trees.Operator.{Operator}
 use Rattle.aml_tree.specs.Tree.{Expr}
 use Rattle.aml_parser.specs.Items.{Item, More, Operand, Expression, Argued, Arguments, Values, Plain, single, all_attached, allowed, compares, operator_of, is_close, is_comma, more_by, ending_by, on_test}
-use Rattle.aml_parser.specs.Reading.{Fault, ◌>>=◌, read, Takes, Stops, Chained, there, if_allowed, operator_there}
+use Rattle.aml_parser.specs.Reading.{Fault, ◌>>=◌, read, Takes, StopsAt, Chained, there, if_allowed, operator_there}
 use Rattle.aml_parser.proofs.ReadLaws.{fine}
 use Rattle.aml_parser.proofs.Steps.{bound_twice, begins, takes_none, takes_by, stops_none, NoBegin, paired}
 use Rattle.aml_parser.proofs.Exprs.{Same, renamed_reads}
@@ -84,7 +84,7 @@ arguing_ends ts depth at end behind es new e so_far chain is pushed names =
           ∙ ap (λ (xs : List (Expr Word)). read s names (behind + 1) (drop (behind + 1) ts) >>= λ vs. Ok (paired (Argued depth) s xs vs)) (sym pushed);
     }
 
-pub arguing_stops : (ts : List Token) (depth at end : ℕ) (es : List (Expr Word)) (fault : Fault) → Arguing ts depth at es end → ((names : ℕ) → Stops ts (Expression depth Arguments ∷ []) names end fault) → (names : ℕ) → Stops ts (Argued depth ∷ []) names at fault
+pub arguing_stops : (ts : List Token) (depth at end : ℕ) (es : List (Expr Word)) (fault : Fault) → Arguing ts depth at es end → ((names : ℕ) → StopsAt ts (Expression depth Arguments ∷ []) names end fault) → (names : ℕ) → StopsAt ts (Argued depth ∷ []) names at fault
 arguing_stops ts depth at end es fault so_far x names = record {
   goes = λ s. so_far.goes s names ∙ ap (λ (r : Result (Values (Expression depth Arguments ∷ s)) Fault). r >>= λ vs. Ok (behind_all depth s es vs)) ((x names).goes s);
 }
@@ -108,7 +108,7 @@ nothing_more depth c (Some (token.Sign u)) over a b = by (operator_of u) over
 nothing_more depth c (Some _) over a b = refl
 
 pub arguing_none : (ts : List Token) (depth at end behind : ℕ) (es : List (Expr Word)) (e : Expr Word) → Arguing ts depth at es end → Chained ts depth end e behind
-    → there is_close (slice_get ts behind) ≡ false → there is_comma (slice_get ts behind) ≡ false → (names : ℕ) → Stops ts (Argued depth ∷ []) names at (behind, Unexpected)
+    → there is_close (slice_get ts behind) ≡ false → there is_comma (slice_get ts behind) ≡ false → (names : ℕ) → StopsAt ts (Argued depth ∷ []) names at (behind, Unexpected)
 arguing_none ts depth at end behind es e so_far chain a b names =
     arguing_stops ts depth at end es (behind, Unexpected) so_far
     (λ n. end_stops ts depth end behind Arguments e n (behind, Unexpected) chain (stops_none ts (More depth chain.compared Arguments) n behind (slice_get ts behind) refl (nothing_more depth chain.compared (slice_get ts behind) chain.over a b))) names

@@ -8,7 +8,7 @@ use Rattle.aml_parser.specs.declared.readers.Sign.TheVariants as fixed
 use Rattle.aml_tree.specs.Tree.{Expr, Code, Onto, Number, Variable, Field, Own, Group, Negative}
 use Rattle.aml_tree.specs.Limits.{opened}
 use Rattle.aml_parser.specs.Items.{Item, Called, New, Fixed, Opening, Target, Operand, More, Expression, Argued, Letting, Block, After, To, LetRest, Valued, Calling, IfRest, Without, WithElse, Value, Values, counted, is_else, is_call, joined_values, let_of, if_of, all_attached, expand}
-use Rattle.aml_parser.specs.Reading.{Fault, ◌>>=◌, production_begun, read, Takes, Stops, TakesPart, Rests, there}
+use Rattle.aml_parser.specs.Reading.{Fault, ◌>>=◌, production_begun, read, Takes, StopsAt, TakesPart, Rests, there}
 use Rattle.aml_parser.proofs.ReadLaws.{fine}
 use Rattle.aml_parser.proofs.Steps.{bound_twice, passed_twice, drop_none, begins, stops_by, paired}
 use Rattle.aml_parser.proofs.Exprs.{Same, renamed_reads}
@@ -69,7 +69,7 @@ with_else ts depth names at after end other is x = record {
 }
 
 pub else_stops : (ts : List Token) (depth names at : ℕ) (fault : Fault) → there is_else (slice_get ts at) ≡ true
-    → Stops ts (Opening depth fixed.OpenBrace ∷ Block (depth + 1) ∷ Block depth ∷ []) names (at + 1) fault → Stops ts (After depth ∷ []) names at fault
+    → StopsAt ts (Opening depth fixed.OpenBrace ∷ Block (depth + 1) ∷ Block depth ∷ []) names (at + 1) fault → StopsAt ts (After depth ∷ []) names at fault
 else_stops ts depth names at fault is x = stops_by ts (After depth) (token.Sign symbol.Else) _ names at fault (else_is (slice_get ts at) is) refl refl x
 
 -- ---- a value, and a call
@@ -113,7 +113,7 @@ let_value_rests ts depth names at end e none x = record {
 }
 
 pub let_value_stops : (ts : List Token) (depth names at : ℕ) (fault : Fault) → there is_call (slice_get ts at) ≡ false
-    → Stops ts (Expression depth (To fixed.Semicolon) ∷ []) names at fault → Stops ts (Letting depth ∷ []) names at fault
+    → StopsAt ts (Expression depth (To fixed.Semicolon) ∷ []) names at fault → StopsAt ts (Letting depth ∷ []) names at fault
 let_value_stops ts depth names at fault none x = record {
   goes = λ s.
       value_reads ts depth s names at (slice_get ts at) refl none
@@ -137,5 +137,5 @@ call_rests ts depth names at end target m es is x = record {
 }
 
 pub call_stops : (ts : List Token) (depth names at : ℕ) (fault : Fault) → there is_call (slice_get ts at) ≡ true
-    → Stops ts (Target depth ∷ Called ∷ Opening depth fixed.Open ∷ Argued (depth + 1) ∷ Fixed fixed.Semicolon ∷ Block depth ∷ []) names (at + 1) fault → Stops ts (Letting depth ∷ []) names at fault
+    → StopsAt ts (Target depth ∷ Called ∷ Opening depth fixed.Open ∷ Argued (depth + 1) ∷ Fixed fixed.Semicolon ∷ Block depth ∷ []) names (at + 1) fault → StopsAt ts (Letting depth ∷ []) names at fault
 call_stops ts depth names at fault is x = stops_by ts (Letting depth) (token.Sign symbol.Call) _ names at fault (call_is (slice_get ts at) is) refl refl x

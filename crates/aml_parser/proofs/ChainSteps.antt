@@ -12,7 +12,7 @@ use Rattle.aml_parser.specs.declared.readers.Sign.TheVariants as fixed
 use Rattle.aml_tree.specs.declared.trees.Operator.{Operator}
 use Rattle.aml_tree.specs.Tree.{Expr}
 use Rattle.aml_parser.specs.Items.{Item, Operand, More, Expression, Closer, To, Ending, Links, Values, Plain, mark, counted, closing, single, attached, all_attached, allowed, compares, is_sign, operator_of, more_by, expand, on_test}
-use Rattle.aml_parser.specs.Reading.{Fault, ◌>>=◌, production_begun, read, Takes, Stops, there, sign_there, if_allowed, operator_there, Chains, Chained, may_close}
+use Rattle.aml_parser.specs.Reading.{Fault, ◌>>=◌, production_begun, read, Takes, StopsAt, there, sign_there, if_allowed, operator_there, Chains, Chained, may_close}
 use Rattle.aml_parser.proofs.Flattened.{all_attached-append}
 use Rattle.aml_parser.proofs.ReadLaws.{fine}
 use Rattle.aml_parser.proofs.Steps.{bound_twice, begins, takes_none, takes_by, stops_limit, stops_none, NoBegin, paired}
@@ -80,7 +80,7 @@ chain_goes ts depth at end next c o e x new chain is operand made =
     }
 
 pub chain_stops : (ts : List Token) (depth at end : ℕ) (c : Bool) (o : Operator) (e : Expr Word) (fault : Fault) → Chains ts depth at e c end → operator_there c (slice_get ts end) ≡ Some o
-    → ((names : ℕ) → Stops ts (Operand depth ∷ []) names (end + 1) fault) → (closer : Closer) (names : ℕ) → Stops ts (Expression depth closer ∷ []) names at fault
+    → ((names : ℕ) → StopsAt ts (Operand depth ∷ []) names (end + 1) fault) → (closer : Closer) (names : ℕ) → StopsAt ts (Expression depth closer ∷ []) names at fault
 chain_stops ts depth at end c o e fault chain is operand closer names = record {
   goes = λ s.
       chain.goes closer s names
@@ -103,7 +103,7 @@ chain_ends ts depth at end next closer e a names chain x = record {
 }
 
 pub end_stops : (ts : List Token) (depth at end : ℕ) (closer : Closer) (e : Expr Word) (names : ℕ) (fault : Fault) (chain : Chained ts depth at e end)
-    → Stops ts (More depth chain.compared closer ∷ []) names end fault → Stops ts (Expression depth closer ∷ []) names at fault
+    → StopsAt ts (More depth chain.compared closer ∷ []) names end fault → StopsAt ts (Expression depth closer ∷ []) names at fault
 end_stops ts depth at end closer e names fault chain x = record {
   goes = λ s.
       chain.chain.goes closer s names
@@ -169,7 +169,7 @@ sign_ends ts depth at end sign e chain there may names =
     counted_takes ts names n end same = subst (λ (k : ℕ). Takes ts [] tt k end names end) (sym same) (takes_none ts names end)
 
 pub sign_deep : (ts : List Token) (depth at end : ℕ) (sign : Sign) (e : Expr Word) (chain : Chained ts depth at e end) → sign_there sign (slice_get ts end) ≡ true → may_close depth sign ≡ false
-    → (names : ℕ) → Stops ts (Expression depth (To sign) ∷ []) names at (end, TooDeep)
+    → (names : ℕ) → StopsAt ts (Expression depth (To sign) ∷ []) names at (end, TooDeep)
 sign_deep ts depth at end sign e chain there deep names =
     let x = sign_is_there sign (slice_get ts end) there in
     end_stops ts depth at end (To sign) e names (end, TooDeep) chain
@@ -190,7 +190,7 @@ nothing_more depth c sign (Some (token.Sign u)) over none = by (operator_of u) o
 nothing_more depth c sign (Some _) over none = refl
 
 pub sign_none : (ts : List Token) (depth at end : ℕ) (sign : Sign) (e : Expr Word) (chain : Chained ts depth at e end) → sign_there sign (slice_get ts end) ≡ false
-    → (names : ℕ) → Stops ts (Expression depth (To sign) ∷ []) names at (end, Unexpected)
+    → (names : ℕ) → StopsAt ts (Expression depth (To sign) ∷ []) names at (end, Unexpected)
 sign_none ts depth at end sign e chain none names =
     end_stops ts depth at end (To sign) e names (end, Unexpected) chain
     (stops_none ts (More depth chain.compared (To sign)) names end (slice_get ts end) refl (nothing_more depth chain.compared sign (slice_get ts end) chain.over none))

@@ -12,7 +12,7 @@ use Rattle.aml_parser.specs.declared.readers.Sign.TheVariants as fixed
 use Rattle.aml_tree.specs.Tree.{Expr, Number, Variable, Field, Own, Group, Negative}
 use Rattle.aml_tree.specs.Limits.{opened}
 use Rattle.aml_parser.specs.Items.{Item, Target, Operand, More, Expression, Closer, To, Value, Values, Production, Plain, mark, counted, single, all_attached, is_minus, target_by, renamed, expand}
-use Rattle.aml_parser.specs.Reading.{Fault, ◌>>=◌, production_begun, text_ended, read, Takes, Stops, there, Chains, ReadsItem}
+use Rattle.aml_parser.specs.Reading.{Fault, ◌>>=◌, production_begun, text_ended, read, Takes, StopsAt, there, Chains, ReadsItem}
 use Rattle.aml_parser.proofs.ReadLaws.{gathered}
 use Rattle.aml_parser.proofs.Steps.{bound_twice, passed_twice, drop_none, begins, takes_none, takes_by, stops_by, stops_limit, stops_none, paired}
 
@@ -51,7 +51,7 @@ renamed_takes ts j i f v names at after end o is same x = record {
 }
 
 pub renamed_stops : (ts : List Token) (j i : Item) (f : Value i → Value j) (names at : ℕ) (fault : Fault) (o : Option Token) → slice_get ts at ≡ o → Same j i f o
-    → Stops ts (i ∷ []) names at fault → Stops ts (j ∷ []) names at fault
+    → StopsAt ts (i ∷ []) names at fault → StopsAt ts (j ∷ []) names at fault
 renamed_stops ts j i f names at fault o is same x = record {
   goes = λ s. renamed_reads ts j i f s names at o is same ∙ ap (λ (r : Result (Values (i ∷ s)) Fault). r >>= λ vs. Ok (paired j s (f vs.0) vs.1)) (x.goes s);
 }
@@ -70,7 +70,7 @@ no_target_sign depth symbol.Own a b = absurd (a refl)
 no_target_sign depth symbol.Open a b = absurd (b refl)
 no_target_sign depth _ a b = refl
 
-pub target_none : (ts : List Token) (depth at : ℕ) (o : Option Token) → slice_get ts at ≡ o → no_target depth o → (names : ℕ) → Stops ts (Target depth ∷ []) names at (at, Unexpected)
+pub target_none : (ts : List Token) (depth at : ℕ) (o : Option Token) → slice_get ts at ≡ o → no_target depth o → (names : ℕ) → StopsAt ts (Target depth ∷ []) names at (at, Unexpected)
 target_none ts depth at None is none names = stops_none ts (Target depth) names at None is (λ s at. refl)
 target_none ts depth at (Some t) is none names = stops_none ts (Target depth) names at (Some t) is none
 
@@ -85,10 +85,10 @@ pub group_takes : (ts : List Token) (depth at end : ℕ) (e : Expr Word) → sli
 group_takes ts depth at end e is lt inner names = takes_by ts (Target depth) (token.Sign symbol.Open) _ ((e, tt), tt) names at names end is refl (is_open_level depth lt) (inner names)
 
 pub group_stops : (ts : List Token) (depth at : ℕ) (fault : Fault) → slice_get ts at ≡ Some (token.Sign symbol.Open) → depth < 32
-    → ((names : ℕ) → Stops ts (Expression (depth + 1) (To fixed.Close) ∷ []) names (at + 1) fault) → (names : ℕ) → Stops ts (Target depth ∷ []) names at fault
+    → ((names : ℕ) → StopsAt ts (Expression (depth + 1) (To fixed.Close) ∷ []) names (at + 1) fault) → (names : ℕ) → StopsAt ts (Target depth ∷ []) names at fault
 group_stops ts depth at fault is lt inner names = stops_by ts (Target depth) (token.Sign symbol.Open) _ names at fault is refl (is_open_level depth lt) (inner names)
 
-pub group_deep : (ts : List Token) (depth at : ℕ) → slice_get ts at ≡ Some (token.Sign symbol.Open) → 32 ≤ depth → (names : ℕ) → Stops ts (Target depth ∷ []) names at (at, TooDeep)
+pub group_deep : (ts : List Token) (depth at : ℕ) → slice_get ts at ≡ Some (token.Sign symbol.Open) → 32 ≤ depth → (names : ℕ) → StopsAt ts (Target depth ∷ []) names at (at, TooDeep)
 group_deep ts depth at is le names = stops_limit ts (Target depth) (token.Sign symbol.Open) _ names at TooDeep is refl (is_deep_level depth le)
 
 minus_is : (o : Option Token) → there is_minus o ≡ true → o ≡ Some (token.Sign symbol.Minus)
@@ -101,10 +101,10 @@ pub negative_takes : (ts : List Token) (depth at end : ℕ) (e : Expr Word) → 
 negative_takes ts depth at end e is lt inner names = takes_by ts (Operand depth) (token.Sign symbol.Minus) _ (e, tt) names at names end (minus_is (slice_get ts at) is) refl (is_open_level depth lt) (inner names)
 
 pub negative_stops : (ts : List Token) (depth at : ℕ) (fault : Fault) → there is_minus (slice_get ts at) ≡ true → depth < 32
-    → ((names : ℕ) → Stops ts (Operand (depth + 1) ∷ []) names (at + 1) fault) → (names : ℕ) → Stops ts (Operand depth ∷ []) names at fault
+    → ((names : ℕ) → StopsAt ts (Operand (depth + 1) ∷ []) names (at + 1) fault) → (names : ℕ) → StopsAt ts (Operand depth ∷ []) names at fault
 negative_stops ts depth at fault is lt inner names = stops_by ts (Operand depth) (token.Sign symbol.Minus) _ names at fault (minus_is (slice_get ts at) is) refl (is_open_level depth lt) (inner names)
 
-pub negative_deep : (ts : List Token) (depth at : ℕ) → there is_minus (slice_get ts at) ≡ true → 32 ≤ depth → (names : ℕ) → Stops ts (Operand depth ∷ []) names at (at, TooDeep)
+pub negative_deep : (ts : List Token) (depth at : ℕ) → there is_minus (slice_get ts at) ≡ true → 32 ≤ depth → (names : ℕ) → StopsAt ts (Operand depth ∷ []) names at (at, TooDeep)
 negative_deep ts depth at is le names = stops_limit ts (Operand depth) (token.Sign symbol.Minus) _ names at TooDeep (minus_is (slice_get ts at) is) refl (is_deep_level depth le)
 
 operand_same : (depth : ℕ) (o : Option Token) → there is_minus o ≡ false → Same (Operand depth) (Target depth) (λ e. e) o
@@ -158,7 +158,7 @@ chain_begins ts depth at end e x = record {
       ∙ bound_twice (read (More depth false closer ∷ s) names end (drop end ts)) (λ vs. paired (Operand depth) (More depth false closer ∷ s) e vs) (chain_value depth closer s);
 }
 
-pub first_stops : (ts : List Token) (depth at : ℕ) (fault : Fault) → ((names : ℕ) → Stops ts (Operand depth ∷ []) names at fault) → (closer : Closer) (names : ℕ) → Stops ts (Expression depth closer ∷ []) names at fault
+pub first_stops : (ts : List Token) (depth at : ℕ) (fault : Fault) → ((names : ℕ) → StopsAt ts (Operand depth ∷ []) names at fault) → (closer : Closer) (names : ℕ) → StopsAt ts (Expression depth closer ∷ []) names at fault
 first_stops ts depth at fault x closer names = record {
   goes = λ s.
       expression_reads ts depth closer s names at (slice_get ts at) refl

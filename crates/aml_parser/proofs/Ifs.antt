@@ -9,7 +9,7 @@ use Rattle.aml_tokens.specs.Token as token
 use Rattle.aml_parser.specs.declared.readers.Sign.TheVariants as fixed
 use Rattle.aml_tree.specs.Tree.{Expr, Code, Onto, If, IfElse}
 use Rattle.aml_parser.specs.Items.{Opening, Expression, Block, To, Without, WithElse, is_else, if_of, block_by, block_by_sign}
-use Rattle.aml_parser.specs.Reading.{Fault, Takes, Stops, TakesPart, there}
+use Rattle.aml_parser.specs.Reading.{Fault, Takes, StopsAt, TakesPart, there}
 use Rattle.aml_parser.proofs.Steps.{takes_then, stops_then, stops_first, stops_by, stops_none}
 use Rattle.aml_parser.proofs.Parts.{same_part}
 use Rattle.aml_parser.proofs.Branches.{if_part, without_else, with_else, else_stops}
@@ -31,23 +31,23 @@ if_else_reads ts depth names at start m behind opened after end c first other g 
     (if_part ts depth names at m behind after end c first (WithElse other) is (takes_then (x names) y) (with_else ts depth m behind after end other else (takes_then (o m) z)))
 
 pub if_condition_stops : (ts : List Token) (depth names at : ℕ) (fault : Fault) → slice_get ts at ≡ Some (token.Sign symbol.If)
-    → ((n : ℕ) → Stops ts (Expression depth (To fixed.OpenBrace) ∷ []) n (at + 1) fault) → Stops ts (Block depth ∷ []) names at fault
+    → ((n : ℕ) → StopsAt ts (Expression depth (To fixed.OpenBrace) ∷ []) n (at + 1) fault) → StopsAt ts (Block depth ∷ []) names at fault
 if_condition_stops ts depth names at fault is x = stops_by ts (Block depth) (token.Sign symbol.If) _ names at fault is refl refl (stops_first (x names))
 
 pub if_first_stops : (ts : List Token) (depth names at start : ℕ) (c : Expr Word) (fault : Fault) → slice_get ts at ≡ Some (token.Sign symbol.If)
-    → ((n : ℕ) → Takes ts (Expression depth (To fixed.OpenBrace) ∷ []) ((c, tt), tt) n (at + 1) n start) → Stops ts (Block (depth + 1) ∷ []) names start fault → Stops ts (Block depth ∷ []) names at fault
+    → ((n : ℕ) → Takes ts (Expression depth (To fixed.OpenBrace) ∷ []) ((c, tt), tt) n (at + 1) n start) → StopsAt ts (Block (depth + 1) ∷ []) names start fault → StopsAt ts (Block depth ∷ []) names at fault
 if_first_stops ts depth names at start c fault is x y = stops_by ts (Block depth) (token.Sign symbol.If) _ names at fault is refl refl (stops_then (x names) (stops_first y))
 
 pub if_open_stops : (ts : List Token) (depth names at start m behind : ℕ) (c : Expr Word) (first : Code Word Word) (fault : Fault) → slice_get ts at ≡ Some (token.Sign symbol.If)
     → ((n : ℕ) → Takes ts (Expression depth (To fixed.OpenBrace) ∷ []) ((c, tt), tt) n (at + 1) n start) → Takes ts (Block (depth + 1) ∷ []) (first, tt) names start m behind
-    → there is_else (slice_get ts behind) ≡ true → ((n : ℕ) → Stops ts (Opening depth fixed.OpenBrace ∷ []) n (behind + 1) fault) → Stops ts (Block depth ∷ []) names at fault
+    → there is_else (slice_get ts behind) ≡ true → ((n : ℕ) → StopsAt ts (Opening depth fixed.OpenBrace ∷ []) n (behind + 1) fault) → StopsAt ts (Block depth ∷ []) names at fault
 if_open_stops ts depth names at start m behind c first fault is x y else o =
     stops_by ts (Block depth) (token.Sign symbol.If) _ names at fault is refl refl (stops_then (x names) (stops_then y (else_stops ts depth m behind fault else (stops_first (o m)))))
 
 pub if_other_stops : (ts : List Token) (depth names at start m behind opened : ℕ) (c : Expr Word) (first : Code Word Word) (fault : Fault) → slice_get ts at ≡ Some (token.Sign symbol.If)
     → ((n : ℕ) → Takes ts (Expression depth (To fixed.OpenBrace) ∷ []) ((c, tt), tt) n (at + 1) n start) → Takes ts (Block (depth + 1) ∷ []) (first, tt) names start m behind
     → there is_else (slice_get ts behind) ≡ true → ((n : ℕ) → Takes ts (Opening depth fixed.OpenBrace ∷ []) (tt, tt) n (behind + 1) n opened)
-    → Stops ts (Block (depth + 1) ∷ []) m opened fault → Stops ts (Block depth ∷ []) names at fault
+    → StopsAt ts (Block (depth + 1) ∷ []) m opened fault → StopsAt ts (Block depth ∷ []) names at fault
 if_other_stops ts depth names at start m behind opened c first fault is x y else o z =
     stops_by ts (Block depth) (token.Sign symbol.If) _ names at fault is refl refl (stops_then (x names) (stops_then y (else_stops ts depth m behind fault else (stops_then (o m) (stops_first z)))))
 
@@ -65,8 +65,8 @@ no_keyword depth symbol.Fail b c d e = absurd (d refl)
 no_keyword depth symbol.Return b c d e = absurd (e refl)
 no_keyword depth _ b c d e = refl
 
-pub no_statement : (ts : List Token) (depth names at : ℕ) (t : Token) → slice_get ts at ≡ Some t → block_by depth t ≡ None → Stops ts (Block depth ∷ []) names at (at, Unexpected)
+pub no_statement : (ts : List Token) (depth names at : ℕ) (t : Token) → slice_get ts at ≡ Some t → block_by depth t ≡ None → StopsAt ts (Block depth ∷ []) names at (at, Unexpected)
 no_statement ts depth names at t is none = stops_none ts (Block depth) names at (Some t) is none
 
-pub text_over : (ts : List Token) (depth names at : ℕ) → slice_get ts at ≡ None → Stops ts (Block depth ∷ []) names at (at, Unexpected)
+pub text_over : (ts : List Token) (depth names at : ℕ) → slice_get ts at ≡ None → StopsAt ts (Block depth ∷ []) names at (at, Unexpected)
 text_over ts depth names at is = stops_none ts (Block depth) names at None is (λ s at. refl)

@@ -7,7 +7,7 @@ use Rattle.aml_tokens.specs.Token.{Token}
 use Rattle.aml_tokens.specs.Token as token
 use Rattle.aml_tree.specs.Limits.{parameter}
 use Rattle.aml_parser.specs.Items.{Item, Parameter, Parameters, MoreParameters, Values, Plain, single, counted, is_close, is_comma, expand}
-use Rattle.aml_parser.specs.Reading.{Fault, ◌>>=◌, production_begun, read, Takes, Stops, there}
+use Rattle.aml_parser.specs.Reading.{Fault, ◌>>=◌, production_begun, read, Takes, StopsAt, there}
 use Rattle.aml_parser.proofs.ReadLaws.{fine}
 use Rattle.aml_parser.proofs.Steps.{bound_twice, passed_twice, drop_none, begins, takes_none, takes_by, stops_none, NoBegin, paired}
 use Rattle.aml_parser.proofs.ArgumentSteps.{close_is, comma_is}
@@ -75,7 +75,7 @@ naming_ends ts at count end behind ws new w so_far x is pushed =
           ∙ ap (λ (xs : List Word). read s (count + 1) (behind + 1) (drop (behind + 1) ts) >>= λ vs. Ok (paired Parameters s xs vs)) (sym pushed);
     }
 
-pub naming_stops : (ts : List Token) (at count end : ℕ) (ws : List Word) (fault : Fault) → Naming ts at ws count end → Stops ts (Parameter ∷ []) count end fault → Stops ts (Parameters ∷ []) 0 at fault
+pub naming_stops : (ts : List Token) (at count end : ℕ) (ws : List Word) (fault : Fault) → Naming ts at ws count end → StopsAt ts (Parameter ∷ []) count end fault → StopsAt ts (Parameters ∷ []) 0 at fault
 naming_stops ts at count end ws fault so_far x = record {
   goes = λ s. so_far.goes s ∙ ap (λ (r : Result (Values (Parameter ∷ MoreParameters ∷ s)) Fault). r >>= λ vs. Ok (behind_names s ws vs)) (x.goes (MoreParameters ∷ s));
 }
@@ -87,7 +87,7 @@ no_more (Some (token.Sign symbol.Comma)) a b = absurd cc
 no_more (Some _) a b = refl
 
 pub naming_none : (ts : List Token) (at count end behind : ℕ) (ws : List Word) (w : Word) → Naming ts at ws count end → Takes ts (Parameter ∷ []) (w, tt) count end (count + 1) behind
-    → there is_close (slice_get ts behind) ≡ false → there is_comma (slice_get ts behind) ≡ false → Stops ts (Parameters ∷ []) 0 at (behind, Unexpected)
+    → there is_close (slice_get ts behind) ≡ false → there is_comma (slice_get ts behind) ≡ false → StopsAt ts (Parameters ∷ []) 0 at (behind, Unexpected)
 naming_none ts at count end behind ws w so_far x a b =
     let none = stops_none ts MoreParameters (count + 1) behind (slice_get ts behind) refl (no_more (slice_get ts behind) a b) in
     record {

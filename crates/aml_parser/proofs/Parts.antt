@@ -10,7 +10,7 @@ use Rattle.aml_parser.specs.declared.readers.Sign.{Sign}
 use Rattle.aml_parser.specs.declared.readers.Sign.TheVariants as fixed
 use Rattle.aml_tree.specs.Tree.{Expr, Code, Onto, Set, SetField, While, Fail, Return}
 use Rattle.aml_parser.specs.Items.{Item, Fixed, Opening, Expression, Failing, Block, To, Values, Production, Plain, Opens, single, mark, counted, is_sign, on_test, joined_values, block_by}
-use Rattle.aml_parser.specs.Reading.{Fault, ◌>>=◌, read, Takes, Stops, TakesPart, there, sign_there}
+use Rattle.aml_parser.specs.Reading.{Fault, ◌>>=◌, read, Takes, StopsAt, TakesPart, there, sign_there}
 use Rattle.aml_parser.proofs.ReadLaws.{fine}
 use Rattle.aml_parser.proofs.Steps.{bound_twice, begins, takes_none, takes_then, takes_by, stops_by, stops_limit, stops_none, stops_then, stops_first, NoBegin, paired}
 use Rattle.aml_parser.proofs.Exprs.{is_open_level, is_deep_level}
@@ -37,7 +37,7 @@ no_sign sign None e = λ s at. refl
 no_sign sign (Some (token.Sign u)) e = ap (λ (b : Bool). on_test b (single {i = Fixed sign} Plain tt)) e
 no_sign sign (Some _) e = refl
 
-pub fixed_stops : (ts : List Token) (sign : Sign) (names at : ℕ) → sign_there sign (slice_get ts at) ≡ false → Stops ts (Fixed sign ∷ []) names at (at, Unexpected)
+pub fixed_stops : (ts : List Token) (sign : Sign) (names at : ℕ) → sign_there sign (slice_get ts at) ≡ false → StopsAt ts (Fixed sign ∷ []) names at (at, Unexpected)
 fixed_stops ts sign names at none = stops_none ts (Fixed sign) names at (slice_get ts at) refl (no_sign sign (slice_get ts at) none)
 
 pub opening_takes : (ts : List Token) (depth : ℕ) (sign : Sign) (names at : ℕ) → sign_there sign (slice_get ts at) ≡ true → depth < 32 → Takes ts (Opening depth sign ∷ []) (tt, tt) names at names (at + 1)
@@ -45,7 +45,7 @@ opening_takes ts depth sign names at there lt =
     let x = sign_is_there sign (slice_get ts at) there in
     takes_by ts (Opening depth sign) (token.Sign x.symbol) (single (Opens depth) tt) tt names at names (at + 1) x.is (ap (λ (b : Bool). on_test b (single {i = Opening depth sign} (Opens depth) tt)) x.same) (is_open_level depth lt) (takes_none ts names (at + 1))
 
-pub opening_deep : (ts : List Token) (depth : ℕ) (sign : Sign) (names at : ℕ) → sign_there sign (slice_get ts at) ≡ true → 32 ≤ depth → Stops ts (Opening depth sign ∷ []) names at (at, TooDeep)
+pub opening_deep : (ts : List Token) (depth : ℕ) (sign : Sign) (names at : ℕ) → sign_there sign (slice_get ts at) ≡ true → 32 ≤ depth → StopsAt ts (Opening depth sign ∷ []) names at (at, TooDeep)
 opening_deep ts depth sign names at there le =
     let x = sign_is_there sign (slice_get ts at) there in
     stops_limit ts (Opening depth sign) (token.Sign x.symbol) (single (Opens depth) tt) names at TooDeep x.is (ap (λ (b : Bool). on_test b (single {i = Opening depth sign} (Opens depth) tt)) x.same) (is_deep_level depth le)
@@ -55,7 +55,7 @@ no_opening depth sign None e = λ s at. refl
 no_opening depth sign (Some (token.Sign u)) e = ap (λ (b : Bool). on_test b (single {i = Opening depth sign} (Opens depth) tt)) e
 no_opening depth sign (Some _) e = refl
 
-pub opening_stops : (ts : List Token) (depth : ℕ) (sign : Sign) (names at : ℕ) → sign_there sign (slice_get ts at) ≡ false → Stops ts (Opening depth sign ∷ []) names at (at, Unexpected)
+pub opening_stops : (ts : List Token) (depth : ℕ) (sign : Sign) (names at : ℕ) → sign_there sign (slice_get ts at) ≡ false → StopsAt ts (Opening depth sign ∷ []) names at (at, Unexpected)
 opening_stops ts depth sign names at none = stops_none ts (Opening depth sign) names at (slice_get ts at) refl (no_opening depth sign (slice_get ts at) none)
 
 -- ---- statements with one production
@@ -108,7 +108,7 @@ while_part ts depth names at after end e b is x =
 
 -- a statement stops where the items behind its first token stop
 pub part_items_stop : (ts : List Token) (depth names at : ℕ) (t : Token) (p : Production (Block depth)) (fault : Fault) → slice_get ts at ≡ Some t → block_by depth t ≡ Some p → mark names p.event ≡ None
-    → Stops ts p.items (counted names p.event) (at + 1) fault → Stops ts (Block depth ∷ []) names at fault
+    → StopsAt ts p.items (counted names p.event) (at + 1) fault → StopsAt ts (Block depth ∷ []) names at fault
 part_items_stop ts depth names at t p fault is found unmarked x = stops_by ts (Block depth) t p names at fault is found unmarked x
 
 -- the same part, by what its tree is
@@ -136,35 +136,35 @@ pub return_reads : (ts : List Token) (depth names at end : ℕ) (e : Expr Word) 
 return_reads ts depth names at end e g is made a = same_part ts depth names at names end (Return e) g made (return_part ts depth names at end e is (a names))
 
 pub return_stops : (ts : List Token) (depth names at : ℕ) (fault : Fault) → slice_get ts at ≡ Some (token.Sign symbol.Return)
-    → ((n : ℕ) → Stops ts (Expression depth (To fixed.Semicolon) ∷ []) n (at + 1) fault) → Stops ts (Block depth ∷ []) names at fault
+    → ((n : ℕ) → StopsAt ts (Expression depth (To fixed.Semicolon) ∷ []) n (at + 1) fault) → StopsAt ts (Block depth ∷ []) names at fault
 return_stops ts depth names at fault is x = stops_by ts (Block depth) (token.Sign symbol.Return) _ names at fault is refl refl (stops_first (x names))
 
 -- an assignment stops at its sign, or in its value
 pub set_sign_stops : (ts : List Token) (depth names at : ℕ) (w : Word) (fault : Fault) → slice_get ts at ≡ Some (token.Name w)
-    → ((n : ℕ) → Stops ts (Fixed fixed.Assign ∷ []) n (at + 1) fault) → Stops ts (Block depth ∷ []) names at fault
+    → ((n : ℕ) → StopsAt ts (Fixed fixed.Assign ∷ []) n (at + 1) fault) → StopsAt ts (Block depth ∷ []) names at fault
 set_sign_stops ts depth names at w fault is x = stops_by ts (Block depth) (token.Name w) _ names at fault is refl refl (stops_first (x names))
 
 pub set_value_stops : (ts : List Token) (depth names at start : ℕ) (w : Word) (fault : Fault) → slice_get ts at ≡ Some (token.Name w) → ((n : ℕ) → Takes ts (Fixed fixed.Assign ∷ []) (tt, tt) n (at + 1) n start)
-    → ((n : ℕ) → Stops ts (Expression depth (To fixed.Semicolon) ∷ []) n start fault) → Stops ts (Block depth ∷ []) names at fault
+    → ((n : ℕ) → StopsAt ts (Expression depth (To fixed.Semicolon) ∷ []) n start fault) → StopsAt ts (Block depth ∷ []) names at fault
 set_value_stops ts depth names at start w fault is a x = stops_by ts (Block depth) (token.Name w) _ names at fault is refl refl (stops_then (a names) (stops_first (x names)))
 
 pub set_field_sign_stops : (ts : List Token) (depth names at k line : ℕ) (fault : Fault) → slice_get ts at ≡ Some (token.Field k line)
-    → ((n : ℕ) → Stops ts (Fixed fixed.Assign ∷ []) n (at + 1) fault) → Stops ts (Block depth ∷ []) names at fault
+    → ((n : ℕ) → StopsAt ts (Fixed fixed.Assign ∷ []) n (at + 1) fault) → StopsAt ts (Block depth ∷ []) names at fault
 set_field_sign_stops ts depth names at k line fault is x = stops_by ts (Block depth) (token.Field k line) _ names at fault is refl refl (stops_first (x names))
 
 pub set_field_value_stops : (ts : List Token) (depth names at start k line : ℕ) (fault : Fault) → slice_get ts at ≡ Some (token.Field k line) → ((n : ℕ) → Takes ts (Fixed fixed.Assign ∷ []) (tt, tt) n (at + 1) n start)
-    → ((n : ℕ) → Stops ts (Expression depth (To fixed.Semicolon) ∷ []) n start fault) → Stops ts (Block depth ∷ []) names at fault
+    → ((n : ℕ) → StopsAt ts (Expression depth (To fixed.Semicolon) ∷ []) n start fault) → StopsAt ts (Block depth ∷ []) names at fault
 set_field_value_stops ts depth names at start k line fault is a x = stops_by ts (Block depth) (token.Field k line) _ names at fault is refl refl (stops_then (a names) (stops_first (x names)))
 
 pub fail_reads : (ts : List Token) (depth names at start end k : ℕ) (g : Onto Word Word) → slice_get ts at ≡ Some (token.Sign symbol.Fail) → ((rest : Code Word Word) → g rest ≡ Fail k rest)
     → ((n : ℕ) → Takes ts (Failing ∷ []) (k, tt) n (at + 1) n start) → ((n : ℕ) → Takes ts (Fixed fixed.Semicolon ∷ []) (tt, tt) n start n end) → TakesPart ts depth g names at names end
 fail_reads ts depth names at start end k g is made a b = same_part ts depth names at names end (Fail k) g made (fail_part ts depth names at end k is (takes_then (a names) (b names)))
 
-pub fail_code_stops : (ts : List Token) (depth names at : ℕ) (fault : Fault) → slice_get ts at ≡ Some (token.Sign symbol.Fail) → ((n : ℕ) → Stops ts (Failing ∷ []) n (at + 1) fault) → Stops ts (Block depth ∷ []) names at fault
+pub fail_code_stops : (ts : List Token) (depth names at : ℕ) (fault : Fault) → slice_get ts at ≡ Some (token.Sign symbol.Fail) → ((n : ℕ) → StopsAt ts (Failing ∷ []) n (at + 1) fault) → StopsAt ts (Block depth ∷ []) names at fault
 fail_code_stops ts depth names at fault is x = stops_by ts (Block depth) (token.Sign symbol.Fail) _ names at fault is refl refl (stops_first (x names))
 
 pub fail_end_stops : (ts : List Token) (depth names at start k : ℕ) (fault : Fault) → slice_get ts at ≡ Some (token.Sign symbol.Fail) → ((n : ℕ) → Takes ts (Failing ∷ []) (k, tt) n (at + 1) n start)
-    → ((n : ℕ) → Stops ts (Fixed fixed.Semicolon ∷ []) n start fault) → Stops ts (Block depth ∷ []) names at fault
+    → ((n : ℕ) → StopsAt ts (Fixed fixed.Semicolon ∷ []) n start fault) → StopsAt ts (Block depth ∷ []) names at fault
 fail_end_stops ts depth names at start k fault is a x = stops_by ts (Block depth) (token.Sign symbol.Fail) _ names at fault is refl refl (stops_then (a names) (stops_first (x names)))
 
 -- ---- loops
@@ -174,9 +174,9 @@ pub while_reads : (ts : List Token) (depth names at start after end : ℕ) (e : 
 while_reads ts depth names at start after end e b g is made x y = same_part ts depth names at after end (While e b) g made (while_part ts depth names at after end e b is (takes_then (x names) y))
 
 pub while_condition_stops : (ts : List Token) (depth names at : ℕ) (fault : Fault) → slice_get ts at ≡ Some (token.Sign symbol.While)
-    → ((n : ℕ) → Stops ts (Expression depth (To fixed.OpenBrace) ∷ []) n (at + 1) fault) → Stops ts (Block depth ∷ []) names at fault
+    → ((n : ℕ) → StopsAt ts (Expression depth (To fixed.OpenBrace) ∷ []) n (at + 1) fault) → StopsAt ts (Block depth ∷ []) names at fault
 while_condition_stops ts depth names at fault is x = stops_by ts (Block depth) (token.Sign symbol.While) _ names at fault is refl refl (stops_first (x names))
 
 pub while_body_stops : (ts : List Token) (depth names at start : ℕ) (e : Expr Word) (fault : Fault) → slice_get ts at ≡ Some (token.Sign symbol.While)
-    → ((n : ℕ) → Takes ts (Expression depth (To fixed.OpenBrace) ∷ []) ((e, tt), tt) n (at + 1) n start) → Stops ts (Block (depth + 1) ∷ []) names start fault → Stops ts (Block depth ∷ []) names at fault
+    → ((n : ℕ) → Takes ts (Expression depth (To fixed.OpenBrace) ∷ []) ((e, tt), tt) n (at + 1) n start) → StopsAt ts (Block (depth + 1) ∷ []) names start fault → StopsAt ts (Block depth ∷ []) names at fault
 while_body_stops ts depth names at start e fault is x y = stops_by ts (Block depth) (token.Sign symbol.While) _ names at fault is refl refl (stops_then (x names) (stops_first y))

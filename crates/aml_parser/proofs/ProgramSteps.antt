@@ -10,7 +10,7 @@ use Rattle.aml_parser.specs.declared.readers.Sign.TheVariants as fixed
 use Rattle.aml_tree.specs.Tree.{TextMethod}
 use Rattle.aml_tree.specs.Limits.{Mark, method}
 use Rattle.aml_parser.specs.Items.{Item, Called, Fixed, Opening, Parameters, Block, Methods, Values, is_method, is_read, joined_values, expand}
-use Rattle.aml_parser.specs.Reading.{Fault, ◌>>=◌, passing, read, program, Takes, Stops, TakesHead, TakesMethod, begin_method, method_items, there}
+use Rattle.aml_parser.specs.Reading.{Fault, ◌>>=◌, passing, read, program, Takes, StopsAt, TakesHead, TakesMethod, begin_method, method_items, there}
 use Rattle.aml_parser.proofs.ReadLaws.{fine}
 use Rattle.aml_parser.proofs.Steps.{bound_twice, drop_none, begins, stops_none, takes_then, stops_then, stops_first, paired}
 
@@ -21,24 +21,24 @@ pub method_takes : (ts : List Token) (is_read : Bool) (at opening start closed f
     → ((n : ℕ) → Takes ts (Opening 0 fixed.OpenBrace ∷ []) (tt, tt) n closed n first) → Takes ts (Block 1 ∷ []) (m.body, tt) count first after end → TakesMethod ts is_read m at end
 method_takes ts is_read at opening start closed first count after end m p a b c d e = record { promise = p; after = after; takes = takes_then (a 0) (takes_then (b 0) (takes_then c (takes_then (d count) e))) }
 
-pub method_name_stops : (ts : List Token) (at : ℕ) (fault : Fault) → ((n : ℕ) → Stops ts (Called ∷ []) n at fault) → Stops ts method_items 0 at fault
+pub method_name_stops : (ts : List Token) (at : ℕ) (fault : Fault) → ((n : ℕ) → StopsAt ts (Called ∷ []) n at fault) → StopsAt ts method_items 0 at fault
 method_name_stops ts at fault x = stops_first (x 0)
 
-pub method_open_stops : (ts : List Token) (at opening : ℕ) (w : Word) (fault : Fault) → ((n : ℕ) → Takes ts (Called ∷ []) (w, tt) n at n opening) → ((n : ℕ) → Stops ts (Opening 0 fixed.Open ∷ []) n opening fault) → Stops ts method_items 0 at fault
+pub method_open_stops : (ts : List Token) (at opening : ℕ) (w : Word) (fault : Fault) → ((n : ℕ) → Takes ts (Called ∷ []) (w, tt) n at n opening) → ((n : ℕ) → StopsAt ts (Opening 0 fixed.Open ∷ []) n opening fault) → StopsAt ts method_items 0 at fault
 method_open_stops ts at opening w fault a x = stops_then (a 0) (stops_first (x 0))
 
 pub method_parameters_stop : (ts : List Token) (at opening start : ℕ) (w : Word) (fault : Fault) → ((n : ℕ) → Takes ts (Called ∷ []) (w, tt) n at n opening) → ((n : ℕ) → Takes ts (Opening 0 fixed.Open ∷ []) (tt, tt) n opening n start)
-    → Stops ts (Parameters ∷ []) 0 start fault → Stops ts method_items 0 at fault
+    → StopsAt ts (Parameters ∷ []) 0 start fault → StopsAt ts method_items 0 at fault
 method_parameters_stop ts at opening start w fault a b x = stops_then (a 0) (stops_then (b 0) (stops_first x))
 
 pub method_brace_stops : (ts : List Token) (at opening start closed count : ℕ) (w : Word) (ws : List Word) (fault : Fault)
     → ((n : ℕ) → Takes ts (Called ∷ []) (w, tt) n at n opening) → ((n : ℕ) → Takes ts (Opening 0 fixed.Open ∷ []) (tt, tt) n opening n start) → Takes ts (Parameters ∷ []) (ws, tt) 0 start count closed
-    → ((n : ℕ) → Stops ts (Opening 0 fixed.OpenBrace ∷ []) n closed fault) → Stops ts method_items 0 at fault
+    → ((n : ℕ) → StopsAt ts (Opening 0 fixed.OpenBrace ∷ []) n closed fault) → StopsAt ts method_items 0 at fault
 method_brace_stops ts at opening start closed count w ws fault a b c x = stops_then (a 0) (stops_then (b 0) (stops_then c (stops_first (x count))))
 
 pub method_body_stops : (ts : List Token) (at opening start closed first count : ℕ) (w : Word) (ws : List Word) (fault : Fault)
     → ((n : ℕ) → Takes ts (Called ∷ []) (w, tt) n at n opening) → ((n : ℕ) → Takes ts (Opening 0 fixed.Open ∷ []) (tt, tt) n opening n start) → Takes ts (Parameters ∷ []) (ws, tt) 0 start count closed
-    → ((n : ℕ) → Takes ts (Opening 0 fixed.OpenBrace ∷ []) (tt, tt) n closed n first) → Stops ts (Block 1 ∷ []) count first fault → Stops ts method_items 0 at fault
+    → ((n : ℕ) → Takes ts (Opening 0 fixed.OpenBrace ∷ []) (tt, tt) n closed n first) → StopsAt ts (Block 1 ∷ []) count first fault → StopsAt ts method_items 0 at fault
 method_body_stops ts at opening start closed first count w ws fault a b c d x = stops_then (a 0) (stops_then (b 0) (stops_then c (stops_then (d count) x)))
 
 -- ---- methods
@@ -122,7 +122,7 @@ head_read_many ts before names at is le =
     read_begins ts before names at is
     ∙ ap (λ (m : Mark). passing m at (read (Fixed fixed.Method ∷ Behind before) 0 (at + 1) (drop (at + 1) ts) >>= λ vs. Ok (begin_reader before vs))) (many_methods before le)
 
-pub head_word_stops : (ts : List Token) (before names at : ℕ) (fault : Fault) → there is_read (slice_get ts at) ≡ true → before < 64 → ((n : ℕ) → Stops ts (Fixed fixed.Method ∷ []) n (at + 1) fault)
+pub head_word_stops : (ts : List Token) (before names at : ℕ) (fault : Fault) → there is_read (slice_get ts at) ≡ true → before < 64 → ((n : ℕ) → StopsAt ts (Fixed fixed.Method ∷ []) n (at + 1) fault)
     → read (Methods before ∷ []) names at (drop at ts) ≡ Err fault
 head_word_stops ts before names at fault is lt word =
     read_runs ts before names at is lt
@@ -199,7 +199,7 @@ pub listing_headless : (ts : List Token) (before end : ℕ) (ms : List TextMetho
 listing_headless ts before end ms fault so_far same none =
     listing_halts ts end ms fault so_far (subst (λ (n : ℕ). read (Methods n ∷ []) so_far.names end (drop end ts) ≡ stopped_at n fault) same (none so_far.names))
 
-pub listing_stops : (ts : List Token) (end start : ℕ) (ms : List TextMethod) (is_read : Bool) (fault : Fault) → Listing ts ms end → TakesHead ts (length ms) is_read end start → Stops ts method_items 0 start fault → program ts ≡ Err fault
+pub listing_stops : (ts : List Token) (end start : ℕ) (ms : List TextMethod) (is_read : Bool) (fault : Fault) → Listing ts ms end → TakesHead ts (length ms) is_read end start → StopsAt ts method_items 0 start fault → program ts ≡ Err fault
 listing_stops ts end start ms is_read fault so_far head x =
     listing_halts ts end ms fault so_far
     (head.goes so_far.names ∙ ap (λ (r : Result (Values (Behind (length ms))) Fault). r >>= λ vs. Ok (begin_method is_read (length ms) vs)) (x.goes (Methods (length ms + 1) ∷ [])))

@@ -10,7 +10,7 @@ use Rattle.aml_tree.specs.Limits.{Mark}
 use Rattle.aml_tree.specs.Tree.{Code, Onto}
 use Rattle.aml_parser.specs.Items.{Item, Block, Value, Values, Production, mark, counted, front, back, joined_values, expand}
 use Rattle.aml_parser.proofs.ReadLaws.{fine, gathered}
-use Rattle.aml_parser.specs.Reading.{Fault, ◌>>=◌, passing, production_begun, text_ended, read, Takes, Stops, TakesPart, Fails}
+use Rattle.aml_parser.specs.Reading.{Fault, ◌>>=◌, passing, production_begun, text_ended, read, Takes, StopsAt, TakesPart, FailsToRead}
 use Rattle.aml_parser.proofs.Split.{front_joined, back_joined}
 
 -- ---- results one after the other
@@ -62,11 +62,11 @@ takes_then {ts} {i} {is} {v} {us} {names} {at} {m} {mid} {after} {end} a b = rec
       ∙ bound_twice (read s after end (drop end ts)) (joined_values is s us) (λ vs. (v, vs));
 }
 
-pub stops_first : {ts : List Token} {i : Item} {is : List Item} {names at : ℕ} {fault : Fault} → Stops ts (i ∷ []) names at fault → Stops ts (i ∷ is) names at fault
+pub stops_first : {ts : List Token} {i : Item} {is : List Item} {names at : ℕ} {fault : Fault} → StopsAt ts (i ∷ []) names at fault → StopsAt ts (i ∷ is) names at fault
 stops_first {is = is} a = record { goes = λ s. a.goes (is ++ s) }
 
 pub stops_then : {ts : List Token} {i : Item} {is : List Item} {v : Value i} {names at m mid : ℕ} {fault : Fault}
-    → Takes ts (i ∷ []) (v, tt) names at m mid → Stops ts is m mid fault → Stops ts (i ∷ is) names at fault
+    → Takes ts (i ∷ []) (v, tt) names at m mid → StopsAt ts is m mid fault → StopsAt ts (i ∷ is) names at fault
 stops_then {ts} {i} {is} {v} a b = record { goes = λ s. a.goes (is ++ s) ∙ ap (λ (r : Result (Values (is ++ s)) Fault). r >>= λ vs. Ok (v, vs)) (b.goes s) }
 
 -- ---- an item by its first token
@@ -93,7 +93,7 @@ takes_by ts i t p us names at after end there found unmarked x = record {
 }
 
 pub stops_by : (ts : List Token) (i : Item) (t : Token) (p : Production i) (names at : ℕ) (fault : Fault) → slice_get ts at ≡ Some t → expand i t ≡ Some p → mark names p.event ≡ None
-    → Stops ts p.items (counted names p.event) (at + 1) fault → Stops ts (i ∷ []) names at fault
+    → StopsAt ts p.items (counted names p.event) (at + 1) fault → StopsAt ts (i ∷ []) names at fault
 stops_by ts i t p names at fault there found unmarked x = record {
   goes = λ s.
       begins ts i s names at t there
@@ -102,7 +102,7 @@ stops_by ts i t p names at fault there found unmarked x = record {
       ∙ ap (λ (r : Result (Values (p.items ++ s)) Fault). r >>= λ vs. Ok (p.make (front p.items s vs), back p.items s vs)) (x.goes s);
 }
 
-pub stops_limit : (ts : List Token) (i : Item) (t : Token) (p : Production i) (names at : ℕ) (c : TextCause) → slice_get ts at ≡ Some t → expand i t ≡ Some p → mark names p.event ≡ Some c → Stops ts (i ∷ []) names at (at, c)
+pub stops_limit : (ts : List Token) (i : Item) (t : Token) (p : Production i) (names at : ℕ) (c : TextCause) → slice_get ts at ≡ Some t → expand i t ≡ Some p → mark names p.event ≡ Some c → StopsAt ts (i ∷ []) names at (at, c)
 stops_limit ts i t p names at c there found marked = record {
   goes = λ s.
       begins ts i s names at t there
@@ -115,7 +115,7 @@ abbrev pub NoBegin : (i : Item) → Option Token → Type 0
 NoBegin i None = (s : List Item) (at : ℕ) → text_ended i s at ≡ Err (at, Unexpected)
 NoBegin i (Some t) = expand i t ≡ None
 
-pub stops_none : (ts : List Token) (i : Item) (names at : ℕ) (o : Option Token) → slice_get ts at ≡ o → NoBegin i o → Stops ts (i ∷ []) names at (at, Unexpected)
+pub stops_none : (ts : List Token) (i : Item) (names at : ℕ) (o : Option Token) → slice_get ts at ≡ o → NoBegin i o → StopsAt ts (i ∷ []) names at (at, Unexpected)
 unfolding read
 stops_none ts i names at None there no_end = record { goes = λ s. ap (read (i ∷ s) names at) (drop_none ts at there) ∙ no_end s at }
 stops_none ts i names at (Some t) there none = record {
@@ -149,11 +149,11 @@ part_ends ts depth f c names at m mid after end a b = record {
       ∙ bound_twice (read s after end (drop end ts)) (λ ws. (c, ws)) (λ vs. (f vs.0, vs.1));
 }
 
-pub part_stops : (ts : List Token) (depth : ℕ) (f : Onto Word Word) (names at m mid : ℕ) (fault : Fault) → TakesPart ts depth f names at m mid → Stops ts (Block depth ∷ []) m mid fault → Stops ts (Block depth ∷ []) names at fault
+pub part_stops : (ts : List Token) (depth : ℕ) (f : Onto Word Word) (names at m mid : ℕ) (fault : Fault) → TakesPart ts depth f names at m mid → StopsAt ts (Block depth ∷ []) m mid fault → StopsAt ts (Block depth ∷ []) names at fault
 part_stops ts depth f names at m mid fault a b = record { goes = λ s. a.goes s ∙ ap (λ (r : Result (Values (Block depth ∷ s)) Fault). r >>= λ vs. Ok (f vs.0, vs.1)) (b.goes s) }
 
 -- ---- faults of the code
 
-pub falls : {P Q : Fault → Type 0} (e : ReadNo) → Fails P e → ((fault : Fault) → P fault → Q fault) → Fails Q e
+pub falls : {P Q : Fault → Type 0} (e : ReadNo) → FailsToRead P e → ((fault : Fault) → P fault → Q fault) → FailsToRead Q e
 falls no.Memory h f = tt
 falls (no.At place cause) h f = f (place, cause) h

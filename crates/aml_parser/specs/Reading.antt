@@ -60,7 +60,7 @@ pub record Takes (ts : List Token) (is : List Item) (us : Values is) (names at a
   pub goes : (s : List Item) → read (is ++ s) names at (drop at ts) ≡ (read s after end (drop end ts) >>= λ vs. Ok (joined_values is s us vs))
 
 -- Items are not there, for the fault.
-pub record Stops (ts : List Token) (is : List Item) (names at : ℕ) (fault : Fault) : Type 0 where
+pub record StopsAt (ts : List Token) (is : List Item) (names at : ℕ) (fault : Fault) : Type 0 where
   pub goes : (s : List Item) → read (is ++ s) names at (drop at ts) ≡ Err fault
 
 -- a part at the front of a block
@@ -68,13 +68,13 @@ pub record TakesPart (ts : List Token) (depth : ℕ) (part : Onto Word Word) (na
   pub goes : (s : List Item) → read (Block depth ∷ s) names at (drop at ts) ≡ (read (Block depth ∷ s) after end (drop end ts) >>= λ vs. Ok (part vs.0, vs.1))
 
 -- What a function returned is read there, or it is not there, unless memory ran out.
-abbrev pub Fails : (Fault → Type 0) → ReadNo → Type 0
-Fails stops no.Memory = ⊤
-Fails stops (no.At place cause) = stops (place, cause)
+abbrev pub FailsToRead : (Fault → Type 0) → ReadNo → Type 0
+FailsToRead stops no.Memory = ⊤
+FailsToRead stops (no.At place cause) = stops (place, cause)
 
-abbrev pub Reads : {X : Type 0} → (X → Type 0) → (Fault → Type 0) → Result X ReadNo → Type 0
-Reads takes stops (Ok x) = takes x
-Reads takes stops (Err e) = Fails stops e
+abbrev pub ReadsOrStops : {X : Type 0} → (X → Type 0) → (Fault → Type 0) → Result X ReadNo → Type 0
+ReadsOrStops takes stops (Ok x) = takes x
+ReadsOrStops takes stops (Err e) = FailsToRead stops e
 
 -- ---- what stands at a place
 
@@ -114,11 +114,11 @@ pub record Chained (ts : List Token) (depth at : ℕ) (e : Expr Word) (end : ℕ
 
 -- an item that declares no name, whatever is declared before it
 abbrev pub ReadsItem : {X : Type 0} → (ts : List Token) → (i : Item) → (X → Value i) → (X → ℕ) → ℕ → Result X ReadNo → Type 0
-ReadsItem ts i view end at result = Reads (λ x. (names : ℕ) → Takes ts (i ∷ []) (view x, tt) names at names (end x)) (λ fault. (names : ℕ) → Stops ts (i ∷ []) names at fault) result
+ReadsItem ts i view end at result = ReadsOrStops (λ x. (names : ℕ) → Takes ts (i ∷ []) (view x, tt) names at names (end x)) (λ fault. (names : ℕ) → StopsAt ts (i ∷ []) names at fault) result
 
 -- an operand and its operators, whatever ends the expression
 abbrev pub ReadsChain : {X : Type 0} → (ts : List Token) → ℕ → (X → Expr Word) → (X → ℕ) → ℕ → Result X ReadNo → Type 0
-ReadsChain ts depth view end at result = Reads (λ x. Chained ts depth at (view x) (end x)) (λ fault. (closer : Closer) (names : ℕ) → Stops ts (Expression depth closer ∷ []) names at fault) result
+ReadsChain ts depth view end at result = ReadsOrStops (λ x. Chained ts depth at (view x) (end x)) (λ fault. (closer : Closer) (names : ℕ) → StopsAt ts (Expression depth closer ∷ []) names at fault) result
 
 -- whether the level that a sign opens at an expression's end may be opened
 abbrev pub may_close : ℕ → Sign → Bool
@@ -136,15 +136,15 @@ pub record TakesLet (ts : List Token) (depth line : ℕ) (v : Word) (part : Onto
   pub rests : Rests ts depth (Letting depth) rest names at after end
 
 abbrev pub ReadsLet : {X : Type 0} → (ts : List Token) → ℕ → ℕ → Word → (X → Onto Word Word) → (X → ℕ) → ℕ → Result X ReadNo → Type 0
-ReadsLet ts depth line v view end at result = Reads (λ x. (names : ℕ) → TakesLet ts depth line v (view x) names at names (end x)) (λ fault. (names : ℕ) → Stops ts (Letting depth ∷ []) names at fault) result
+ReadsLet ts depth line v view end at result = ReadsOrStops (λ x. (names : ℕ) → TakesLet ts depth line v (view x) names at names (end x)) (λ fault. (names : ℕ) → StopsAt ts (Letting depth ∷ []) names at fault) result
 
 -- an item from a number of names on up to another, a part of a block, and an item that ends with the
 -- block's rest
 abbrev pub ReadsFrom : {X : Type 0} → (ts : List Token) → (i : Item) → (X → Value i) → (X → ℕ) → (X → ℕ) → ℕ → ℕ → Result X ReadNo → Type 0
-ReadsFrom ts i view after end names at result = Reads (λ x. Takes ts (i ∷ []) (view x, tt) names at (after x) (end x)) (λ fault. Stops ts (i ∷ []) names at fault) result
+ReadsFrom ts i view after end names at result = ReadsOrStops (λ x. Takes ts (i ∷ []) (view x, tt) names at (after x) (end x)) (λ fault. StopsAt ts (i ∷ []) names at fault) result
 
 abbrev pub ReadsPart : {X : Type 0} → (ts : List Token) → ℕ → (X → Onto Word Word) → (X → ℕ) → (X → ℕ) → ℕ → ℕ → Result X ReadNo → Type 0
-ReadsPart ts depth view after end names at result = Reads (λ x. TakesPart ts depth (view x) names at (after x) (end x)) (λ fault. Stops ts (Block depth ∷ []) names at fault) result
+ReadsPart ts depth view after end names at result = ReadsOrStops (λ x. TakesPart ts depth (view x) names at (after x) (end x)) (λ fault. StopsAt ts (Block depth ∷ []) names at fault) result
 
 -- a method behind the words with which it begins, where names are counted anew, up to some number of them
 abbrev pub method_items : List Item
@@ -156,7 +156,7 @@ pub record TakesMethod (ts : List Token) (is_read : Bool) (m : TextMethod) (at e
   pub takes : Takes ts method_items (m.name, (tt, (m.parameters, (tt, (m.body, tt))))) 0 at after end
 
 abbrev pub ReadsMethod : {X : Type 0} → (ts : List Token) → Bool → (X → TextMethod) → (X → ℕ) → ℕ → Result X ReadNo → Type 0
-ReadsMethod ts is_read view end at result = Reads (λ x. TakesMethod ts is_read (view x) at (end x)) (λ fault. Stops ts method_items 0 at fault) result
+ReadsMethod ts is_read view end at result = ReadsOrStops (λ x. TakesMethod ts is_read (view x) at (end x)) (λ fault. StopsAt ts method_items 0 at fault) result
 
 -- the value that a method's parts make, with that of the methods behind it
 abbrev pub begin_method : (is_read : Bool) → (before : ℕ) → Values (method_items ++ (Methods (before + 1) ∷ [])) → Values (Methods before ∷ [])
@@ -167,7 +167,7 @@ pub record TakesHead (ts : List Token) (before : ℕ) (is_read : Bool) (at start
   pub goes : (names : ℕ) → read (Methods before ∷ []) names at (drop at ts) ≡ (read (method_items ++ (Methods (before + 1) ∷ [])) 0 start (drop start ts) >>= λ vs. Ok (begin_method is_read before vs))
 
 abbrev pub ReadsHead : {X : Type 0} → (ts : List Token) → ℕ → (X → Bool) → (X → ℕ) → ℕ → Result X ReadNo → Type 0
-ReadsHead ts before view start at result = Reads (λ x. TakesHead ts before (view x) at (start x)) (λ fault. (names : ℕ) → read (Methods before ∷ []) names at (drop at ts) ≡ Err fault) result
+ReadsHead ts before view start at result = ReadsOrStops (λ x. TakesHead ts before (view x) at (start x)) (λ fault. (names : ℕ) → read (Methods before ∷ []) names at (drop at ts) ≡ Err fault) result
 
 -- a name, whatever item it is
 abbrev pub is_name : Token → Bool
@@ -175,7 +175,7 @@ is_name (token.Name w) = true
 is_name _ = false
 
 abbrev pub ReadsName : (ts : List Token) → ℕ → Result (Word × ℕ) ReadNo → Type 0
-ReadsName ts at result = Reads (λ x. (slice_get ts at ≡ Some (token.Name x.0)) × (x.1 ≡ at + 1)) (λ fault. (fault ≡ (at, Unexpected)) × (there is_name (slice_get ts at) ≡ false)) result
+ReadsName ts at result = ReadsOrStops (λ x. (slice_get ts at ≡ Some (token.Name x.0)) × (x.1 ≡ at + 1)) (λ fault. (fault ≡ (at, Unexpected)) × (there is_name (slice_get ts at) ≡ false)) result
 
 -- the line of a closing brace
 abbrev pub brace_there : Option Token → Option ℕ

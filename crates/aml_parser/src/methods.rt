@@ -4,7 +4,7 @@ ghost use Rattle.std.specs.Prelude.{◌≡◌, true, false, ℕ, ◌+◌, ◌<�
 ghost use Rattle.aml_tokens.specs.Token.{tokens_of};
 ghost use Rattle.aml_tree.specs.Tree.{method_tree};
 ghost use Rattle.aml_parser.specs.Items as item;
-ghost use Rattle.aml_parser.specs.Reading.{ReadsFrom, ReadsHead, ReadsMethod, Reads, program};
+ghost use Rattle.aml_parser.specs.Reading.{ReadsFrom, ReadsHead, ReadsMethod, ReadsOrStops, program};
 
 use crate::looks::{is_close_at, is_comma_at, is_method_at, is_read_at, too_many, unexpected};
 use crate::readers::{ReadNo, Sign};
@@ -105,7 +105,7 @@ pub(crate) fn methods(
     alloc: Global,
     tokens: &[Token<'_>],
 ) -> Result<Vec<Method<Word, Word>>, ReadNo>
-    ensures reads { Reads (λ x. program (tokens_of tokens.now) ≡ Ok (map method_tree x.items)) (λ fault. program (tokens_of tokens.now) ≡ Err fault) result }
+    ensures reads { ReadsOrStops (λ x. program (tokens_of tokens.now) ≡ Ok (map method_tree x.items)) (λ fault. program (tokens_of tokens.now) ≡ Err fault) result }
 {
     let mut methods = Vec::new(alloc);
     let mut end = 0;

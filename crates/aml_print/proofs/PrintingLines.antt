@@ -13,7 +13,7 @@ use Rattle.aml_tokens.specs.Writing.{nothing_written, with_tokens, in_first_line
 use Rattle.aml_tree.specs.Tree.{Expr, Number, Variable, Field, Own, Group, Negative, Binary, Code, End, Let, Call, Set, SetField, If, IfElse, While, Fail, Return, TextMethod, bare_expression, without_lines, bare}
 use Rattle.aml_tree.specs.Grammar.{sign, spelling, listed, block_spelling, name_spelling, read_spelling, method_spelling, program_spelling, IsWord, IsAtLevel, IsExpression, IsPrimary, IsBlock, IsMethod, level, lean}
 use Rattle.aml_tree.specs.Limits.{Mark, marks, lets, block_marks, parameter_marks, method_marks, methods_marks}
-use Rattle.aml_tree.specs.Programs.{IsUnmarked, IsProgram, IsProgramText, IsTextOf}
+use Rattle.aml_tree.specs.Programs.{IsUnmarked, IsProgram, IsProgramText, IsTextOfProgram}
 use Rattle.aml_print.specs.Printing.{after}
 use Rattle.aml_print.proofs.PrintingTokens.{program_tokens}
 
@@ -279,7 +279,7 @@ unfolding after
 after_is p = refl
 
 -- a text with the tokens of a program, all in the first line
-read_as : (p : List TextMethod) (text : List ℕ) → IsProgram p → IsReadBack text (program_spelling p) → IsTextOf text p
+read_as : (p : List TextMethod) (text : List ℕ) → IsProgram p → IsReadBack text (program_spelling p) → IsTextOfProgram text p
 read_as p text h r = (
   map method_lined p,
   record { whole = r.whole; spelled = r.same ∙ sym (program_spelling_lined p); program = program_lined p h },
@@ -292,10 +292,10 @@ TokensAreRead = (ts : List Token) → AllByRecursion IsToken ts → length (with
 abbrev WrittenIsRead : Type 0
 WrittenIsRead = (source : List ℕ) → stop source ≡ None → IsReadBack (with_tokens nothing_written (tokens source)).text (tokens source)
 
-pub printed : TokensAreRead → (p : List TextMethod) → IsProgram p → length (line_of p) ≤ LONGEST_PROGRAM → IsTextOf (line_of p) p
+pub printed : TokensAreRead → (p : List TextMethod) → IsProgram p → length (line_of p) ≤ LONGEST_PROGRAM → IsTextOfProgram (line_of p) p
 printed law p h fits = read_as p (line_of p) h (law (program_spelling p) (program_tokens p h.grammar.methods) fits)
 
-pub printed_again : WrittenIsRead → (p : List TextMethod) (source : List ℕ) → IsProgramText source p → IsTextOf (line_of p) p
+pub printed_again : WrittenIsRead → (p : List TextMethod) (source : List ℕ) → IsProgramText source p → IsTextOfProgram (line_of p) p
 printed_again law p source h =
     let Back : List Token → Type 0 = λ ts. IsReadBack (with_tokens nothing_written ts).text ts in
     read_as p (line_of p) h.program (subst Back h.spelled (law source h.whole))

@@ -23,5 +23,5 @@ abbrev pub comma_before : ℕ → List Token
 comma_before before = if before == 0 then [] else token.Sign symbol.Comma ∷ []
 
 -- the tokens of a statement, whatever stands behind it in its block
-abbrev pub Writes : Written → Written → Onto Word Word → Type 0
-Writes old new statement = (rest : Code Word Word) → after old (block_spelling (statement rest)) ≡ after new (block_spelling rest)
+abbrev pub WritesTokens : Written → Written → Onto Word Word → Type 0
+WritesTokens old new statement = (rest : Code Word Word) → after old (block_spelling (statement rest)) ≡ after new (block_spelling rest)

@@ -3,7 +3,7 @@
 ghost use Rattle.std.specs.Prelude.{◌≡◌, OnOk};
 ghost use Rattle.aml_tree.specs.Tree.{statement_tree, block_tree};
 ghost use Rattle.aml_tree.specs.Grammar.{block_spelling};
-ghost use Rattle.aml_print.specs.Printing.{after, Writes};
+ghost use Rattle.aml_print.specs.Printing.{after, WritesTokens};
 
 use crate::statements::{
     write_call, write_fail, write_head, write_let, write_return, write_set, write_set_field,
@@ -14,7 +14,7 @@ use aml_tree::{Block, Statement};
 use snap_base::Memory;
 use std::alloc::Global;
 
-/// Writes the statements of a block and its closing brace.
+/// WritesTokens the statements of a block and its closing brace.
 #[cycle(writing_blocks)]
 pub(crate) fn write_block(
     alloc: Global,
@@ -36,7 +36,7 @@ fn write_statement(
     writer: &mut Writer,
     statement: &Statement<Word, Word>,
 ) -> Result<(), Memory>
-    ensures { OnOk result (Writes writer.old writer.new (statement_tree statement.now)) }
+    ensures { OnOk result (WritesTokens writer.old writer.new (statement_tree statement.now)) }
 {
     match statement {
         Statement::Let {

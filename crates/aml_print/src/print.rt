@@ -5,7 +5,7 @@ ghost use Rattle.std.specs.Str.{IsUtf8};
 ghost use Rattle.aml_tokens.specs.Writing.{nothing_written, with_tokens};
 ghost use Rattle.aml_tree.specs.Tree.{method_tree, program_tree};
 ghost use Rattle.aml_tree.specs.Grammar.{listed, name_spelling, method_spelling, program_spelling};
-ghost use Rattle.aml_tree.specs.Programs.{IsProgram, IsProgramText, IsTextOf};
+ghost use Rattle.aml_tree.specs.Programs.{IsProgram, IsProgramText, IsTextOfProgram};
 ghost use Rattle.aml_print.specs.Printing.{after};
 
 use crate::blocks::write_block;
@@ -21,9 +21,9 @@ pub fn print_program(alloc: Global, program: &Program<Word, Word>) -> Result<Str
     // The text is the tree's spelling, written in one line.
     ensures written { IfOk result (λ text. IsProgram (program_tree program.now) → string_bytes text ≡ (with_tokens nothing_written (program_spelling (program_tree program.now))).text) }
     // Where it is not too long, it spells the same tree, but for the lines.
-    ensures read { IfOk result (λ text. IsProgram (program_tree program.now) → length (string_bytes text) ≤ LONGEST_PROGRAM → IsTextOf (string_bytes text) (program_tree program.now)) }
+    ensures read { IfOk result (λ text. IsProgram (program_tree program.now) → length (string_bytes text) ≤ LONGEST_PROGRAM → IsTextOfProgram (string_bytes text) (program_tree program.now)) }
     // So it does where any text spells the program.
-    ensures again { IfOk result (λ text. (source : List ℕ) → IsProgramText source (program_tree program.now) → IsTextOf (string_bytes text) (program_tree program.now)) }
+    ensures again { IfOk result (λ text. (source : List ℕ) → IsProgramText source (program_tree program.now) → IsTextOfProgram (string_bytes text) (program_tree program.now)) }
 {
     tokens_are_read();
     written_is_read();

@@ -5,7 +5,7 @@ ghost use Rattle.aml_tokens.specs.declared.tokens.Symbol.TheVariants as symbol;
 ghost use Rattle.aml_tokens.specs.Token.{Sign};
 ghost use Rattle.aml_tree.specs.Tree.{Let, Call, Set, SetField, Fail, Return, expression_tree};
 ghost use Rattle.aml_tree.specs.Grammar.{spelling};
-ghost use Rattle.aml_print.specs.Printing.{after, Writes};
+ghost use Rattle.aml_print.specs.Printing.{after, WritesTokens};
 
 use crate::expressions::{write_arguments, write_expression};
 use crate::tokens::{write_field, write_let_word, write_number, write_symbol, write_word};
@@ -21,7 +21,7 @@ pub(crate) fn write_let(
     variable: &Word,
     value: &Expression<Word>,
 ) -> Result<(), Memory>
-    ensures { OnOk result (Writes writer.old writer.new (Let line variable.now (expression_tree value.now))) }
+    ensures { OnOk result (WritesTokens writer.old writer.new (Let line variable.now (expression_tree value.now))) }
 {
     write_let_word(writer, line)?;
     write_word(writer, variable)?;
@@ -39,7 +39,7 @@ pub(crate) fn write_call(
     method: &Word,
     arguments: &[Expression<Word>],
 ) -> Result<(), Memory>
-    ensures { OnOk result (Writes writer.old writer.new (Call line variable.now (expression_tree target.now) method.now (map expression_tree arguments.now))) }
+    ensures { OnOk result (WritesTokens writer.old writer.new (Call line variable.now (expression_tree target.now) method.now (map expression_tree arguments.now))) }
 {
     write_let_word(writer, line)?;
     write_word(writer, variable)?;
@@ -60,7 +60,7 @@ pub(crate) fn write_set(
     variable: &Word,
     value: &Expression<Word>,
 ) -> Result<(), Memory>
-    ensures { OnOk result (Writes writer.old writer.new (Set variable.now (expression_tree value.now))) }
+    ensures { OnOk result (WritesTokens writer.old writer.new (Set variable.now (expression_tree value.now))) }
 {
     write_word(writer, variable)?;
     write_symbol(writer, Symbol::Assign)?;
@@ -75,7 +75,7 @@ pub(crate) fn write_set_field(
     field: u8,
     value: &Expression<Word>,
 ) -> Result<(), Memory>
-    ensures { OnOk result (Writes writer.old writer.new (SetField line field (expression_tree value.now))) }
+    ensures { OnOk result (WritesTokens writer.old writer.new (SetField line field (expression_tree value.now))) }
 {
     write_field(writer, field, line)?;
     write_symbol(writer, Symbol::Assign)?;
@@ -84,7 +84,7 @@ pub(crate) fn write_set_field(
 }
 
 pub(crate) fn write_fail(alloc: Global, writer: &mut Writer, code: u16) -> Result<(), Memory>
-    ensures { OnOk result (Writes writer.old writer.new (Fail code)) }
+    ensures { OnOk result (WritesTokens writer.old writer.new (Fail code)) }
 {
     write_symbol(writer, Symbol::Fail)?;
     write_number(alloc, writer, u64::from(code))?;
@@ -97,14 +97,14 @@ pub(crate) fn write_return(
     writer: &mut Writer,
     value: &Expression<Word>,
 ) -> Result<(), Memory>
-    ensures { OnOk result (Writes writer.old writer.new (Return (expression_tree value.now))) }
+    ensures { OnOk result (WritesTokens writer.old writer.new (Return (expression_tree value.now))) }
 {
     write_symbol(writer, Symbol::Return)?;
     write_value(alloc, writer, value)?;
     Ok(())
 }
 
-/// Writes a value and the semicolon behind it.
+/// WritesTokens a value and the semicolon behind it.
 fn write_value(alloc: Global, writer: &mut Writer, value: &Expression<Word>) -> Result<(), Memory>
     ensures { OnOk result (writer.new ≡ after writer.old (spelling (expression_tree value.now) ++ Sign symbol.Semicolon ∷ [])) }
 {
@@ -113,7 +113,7 @@ fn write_value(alloc: Global, writer: &mut Writer, value: &Expression<Word>) -> 
     Ok(())
 }
 
-/// Writes a keyword, a condition and the brace that opens a block.
+/// WritesTokens a keyword, a condition and the brace that opens a block.
 pub(crate) fn write_head(
     alloc: Global,
     writer: &mut Writer,

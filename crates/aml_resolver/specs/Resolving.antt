@@ -16,11 +16,11 @@ use Rattle.aml_resolver.specs.declared.faults.CheckNo.{CheckNo}
 use Rattle.aml_resolver.specs.declared.faults.CheckNo.TheVariants.{Fault, Memory}
 
 -- the first of these faults
-abbrev pub IsFirstOf : List CheckFault → CheckFault → Type 0
-IsFirstOf faults f = (more : List CheckFault) × (faults ≡ f ∷ more)
+abbrev pub IsFirstFaultOf : List CheckFault → CheckFault → Type 0
+IsFirstFaultOf faults f = (more : List CheckFault) × (faults ≡ f ∷ more)
 
 abbrev pub Refuses : List CheckFault → CheckNo → Type 0
-Refuses faults (Fault f) = IsFirstOf faults f
+Refuses faults (Fault f) = IsFirstFaultOf faults f
 Refuses faults Memory = ⊤
 
 -- the view of what is given is this
@@ -51,6 +51,6 @@ pub record Continues (p : List TextMethod) (is_read : Bool) (names next : List (
   pub kept : take (length names) next ≡ names
   pub room : (rest : Code Word Word) → length next + lets rest ≤ length names + lets (statement rest)
 
-abbrev pub Steps : List TextMethod → Bool → List (List ℕ) → List (List ℕ) → Onto Word Word → Result (Statement ℕ ℕ) CheckNo → Type 0
-Steps p is_read names next statement (Ok c) = Continues p is_read names next statement (statement_tree c)
-Steps p is_read names next statement (Err e) = (rest : Code Word Word) → Refuses (block_faults p is_read names (statement rest)) e
+abbrev pub StepsTo : List TextMethod → Bool → List (List ℕ) → List (List ℕ) → Onto Word Word → Result (Statement ℕ ℕ) CheckNo → Type 0
+StepsTo p is_read names next statement (Ok c) = Continues p is_read names next statement (statement_tree c)
+StepsTo p is_read names next statement (Err e) = (rest : Code Word Word) → Refuses (block_faults p is_read names (statement rest)) e

@@ -6,7 +6,7 @@ ghost use Rattle.aml_tree.specs.Tree.{End, statement_tree, statements_tree, bloc
 ghost use Rattle.aml_resolver.specs.Faults.{block_faults};
 ghost use Rattle.aml_check.specs.Names.{method_names};
 ghost use Rattle.aml_resolver.specs.Names.{checked_block};
-ghost use Rattle.aml_resolver.specs.Resolving.{Resolves, Steps};
+ghost use Rattle.aml_resolver.specs.Resolving.{Resolves, StepsTo};
 
 use crate::CheckNo;
 use crate::expressions::expression;
@@ -72,7 +72,7 @@ fn statement(
 ) -> Result<Statement<u8, u16>, CheckNo>
     requires room { length names.old.items + lets (statement_tree one.now (End 0)) ≤ MOST_NAMES }
     requires few { length methods.now ≤ MOST_METHODS }
-    ensures { Steps (map method_tree methods.now) is_read names.old.items names.new.items (statement_tree one.now) result }
+    ensures { StepsTo (map method_tree methods.now) is_read names.old.items names.new.items (statement_tree one.now) result }
 {
     match one {
         Statement::Let {

@@ -3,7 +3,7 @@
 ghost use Rattle.std.specs.Prelude.{◌≡◌, ◌+◌, ◌≤◌, ◌<◌, ◌++◌, ◌∷◌, ◌&&◌, [], Bool, length, map, IfOk};
 ghost use Rattle.aml_tree.specs.Tree.{Let, Call, Set, SetField, Return, expression_tree, method_tree};
 ghost use Rattle.aml_resolver.specs.Faults.{is_writer, promise_faults};
-ghost use Rattle.aml_resolver.specs.Resolving.{Passes, Steps};
+ghost use Rattle.aml_resolver.specs.Resolving.{Passes, StepsTo};
 
 use crate::calls::{called, is_writer};
 use crate::expressions::{arguments, expression};
@@ -62,7 +62,7 @@ pub(crate) fn let_statement(
     value: &Expression<Word>,
 ) -> Result<Statement<u8, u16>, CheckNo>
     requires { length names.old.items < MOST_NAMES }
-    ensures { (is_read : Bool) → Steps (map method_tree methods.now) is_read names.old.items names.new.items (Let line word.now (expression_tree value.now)) result }
+    ensures { (is_read : Bool) → StepsTo (map method_tree methods.now) is_read names.old.items names.new.items (Let line word.now (expression_tree value.now)) result }
 {
     new_name(names.as_slice(), word)?;
     let resolved = expression(alloc, names.as_slice(), value)?;
@@ -84,7 +84,7 @@ pub(crate) fn call_statement(
 ) -> Result<Statement<u8, u16>, CheckNo>
     requires room { length names.old.items < MOST_NAMES }
     requires few { length methods.now ≤ MOST_METHODS }
-    ensures { Steps (map method_tree methods.now) is_read names.old.items names.new.items (Call line word.now (expression_tree target.now) method.now (map expression_tree values.now)) result }
+    ensures { StepsTo (map method_tree methods.now) is_read names.old.items names.new.items (Call line word.now (expression_tree target.now) method.now (map expression_tree values.now)) result }
 {
     promised_call(methods, is_read, line, method)?;
     new_name(names.as_slice(), word)?;
@@ -104,7 +104,7 @@ pub(crate) fn set_statement(
     value: &Expression<Word>,
 ) -> Result<Statement<u8, u16>, CheckNo>
     requires { length names.now ≤ MOST_NAMES }
-    ensures { (is_read : Bool) → Steps (map method_tree methods.now) is_read names.now names.now (Set word.now (expression_tree value.now)) result }
+    ensures { (is_read : Bool) → StepsTo (map method_tree methods.now) is_read names.now names.now (Set word.now (expression_tree value.now)) result }
 {
     let place = variable(names, word)?;
     let resolved = expression(alloc, names, value)?;
@@ -121,7 +121,7 @@ pub(crate) fn field_statement(
     value: &Expression<Word>,
 ) -> Result<Statement<u8, u16>, CheckNo>
     requires { length names.now ≤ MOST_NAMES }
-    ensures { Steps (map method_tree methods.now) is_read names.now names.now (SetField line field (expression_tree value.now)) result }
+    ensures { StepsTo (map method_tree methods.now) is_read names.now names.now (SetField line field (expression_tree value.now)) result }
 {
     promised(is_read, line)?;
     let resolved = expression(alloc, names, value)?;
@@ -135,7 +135,7 @@ pub(crate) fn return_statement(
     value: &Expression<Word>,
 ) -> Result<Statement<u8, u16>, CheckNo>
     requires { length names.now ≤ MOST_NAMES }
-    ensures { (is_read : Bool) → Steps (map method_tree methods.now) is_read names.now names.now (Return (expression_tree value.now)) result }
+    ensures { (is_read : Bool) → StepsTo (map method_tree methods.now) is_read names.now names.now (Return (expression_tree value.now)) result }
 {
     let resolved = expression(alloc, names, value)?;
     Ok(makers::return_statement(resolved))

@@ -5,7 +5,7 @@ use Rattle.std.proofs.lemmas.Bool.Decides.{nat_tests}
 use Rattle.std.proofs.lemmas.List.Elements.{Contains-push, Contains-append_left}
 use Rattle.snap_base.specs.declared.ids.ActorId.{ActorId}
 use Rattle.aml_check.specs.Meaning.{◌>>=◌, Progress, too_many_calls, too_many_actors, one_call, with_actor, declared, by_declaration, with_left, used, before, one_less, admitted}
-use Rattle.aml_slice.specs.Controls.{IsLeft, HasLeft}
+use Rattle.aml_slice.specs.Controls.{IsCallLeft, HasLeft}
 use Rattle.aml_slice.specs.Views.{calls_of}
 use Rattle.aml_slice.proofs.Askings.{any_contains}
 
@@ -72,8 +72,8 @@ joins_by a r q false false among few e = absurd cc
 
 -- one call less
 record Spends (a : ℕ) (us vs : List (ActorId × ℕ)) : Type 0 where
-  left : (b : ℕ) → IsLeft vs b → IsLeft us b
-  was_left : IsLeft us a
+  left : (b : ℕ) → IsCallLeft vs b → IsCallLeft us b
+  was_left : IsCallLeft us a
   fewer : calls_of us ≡ calls_of vs + 1
 
 spends_less : (a : ℕ) (u : ActorId) (n : ℕ) (us vs : List (ActorId × ℕ)) → u.0 ≡ a → one_less u n us ≡ Some vs → Spends a ((u, n) ∷ us) vs

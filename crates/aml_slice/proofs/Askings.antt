@@ -7,17 +7,17 @@ use Rattle.std.proofs.lemmas.List.{drop_more, reverse-append}
 use Rattle.snap_base.specs.declared.ids.ActorId.{ActorId}
 use Rattle.snap_base.proofs.Booleans.{or_true}
 use Rattle.aml_slice.specs.declared.frames.Frame as code
-use Rattle.aml_slice.specs.Controls.{Frame, IsLeft, StandsOn}
+use Rattle.aml_slice.specs.Controls.{Frame, IsCallLeft, StandsOn}
 use Rattle.aml_slice.specs.Views.{frame_of, WaitsOn}
 
-left_from : (us : List (ActorId × ℕ)) (i a : ℕ) → IsLeft (drop i us) a → IsLeft us a
+left_from : (us : List (ActorId × ℕ)) (i a : ℕ) → IsCallLeft (drop i us) a → IsCallLeft us a
 left_from us zero a h = h
 left_from [] (suc i) a h = h
 left_from (u ∷ us) (suc i) a h = inr (left_from us i a h)
 
-pub left_here : (us : List (ActorId × ℕ)) (i : ℕ) (u : ActorId × ℕ) (a : ℕ) → i < length us → u ≡ get_or us i u → u.0.0 ≡ a → 1 ≤ u.1 → IsLeft us a
+pub left_here : (us : List (ActorId × ℕ)) (i : ℕ) (u : ActorId × ℕ) (a : ℕ) → i < length us → u ≡ get_or us i u → u.0.0 ≡ a → 1 ≤ u.1 → IsCallLeft us a
 left_here us i u a within is same some =
-    let P : List (ActorId × ℕ) → Type 0 = λ vs. IsLeft vs a in
+    let P : List (ActorId × ℕ) → Type 0 = λ vs. IsCallLeft vs a in
     left_from us i a (subst P (sym (drop_more us i u within ∙ ap (λ v. v ∷ drop (i + 1) us) (sym is))) (inl (same, some)))
 
 waits_from : (fs : List code.Frame) (i a : ℕ) → WaitsOn (drop i fs) a → WaitsOn fs a

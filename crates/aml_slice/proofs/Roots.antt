@@ -13,7 +13,7 @@ use Rattle.aml_check.specs.Names.{method_at}
 use Rattle.aml_check.specs.Closed.{IsClosedProgram}
 use Rattle.aml_check.specs.Transactions.{IsUse, IsTransaction, Declares}
 use Rattle.aml_check.specs.Meaning.{◌>>=◌, Progress, admitted, used, before, one_less, by_declaration, with_left, declaration, beginning, block, called, given, alone, ended_alone}
-use Rattle.aml_slice.specs.Controls.{Frame, Rest, IsFrame, StandsOn, IsLeft, HasLeft, RestsOn, progress_in, fresh}
+use Rattle.aml_slice.specs.Controls.{Frame, Rest, IsFrame, StandsOn, IsCallLeft, HasLeft, RestsOn, progress_in, fresh}
 use Rattle.aml_slice.specs.Wholes.{rest_gives, BeginsTransaction}
 use Rattle.aml_slice.proofs.Admissions.{Admits, admits}
 use Rattle.aml_slice.proofs.Following.{fresh_frame}
@@ -67,7 +67,7 @@ last_bind : (o : Result (ℤ × Progress) ℕ) → (o >>= λ x. let y : Result (
 last_bind (Ok x) = refl
 last_bind (Err code) = refl
 
-left_among : (us : List (ActorId × ℕ)) (a : ℕ) → IsLeft us a → Contains (actors_of us) a
+left_among : (us : List (ActorId × ℕ)) (a : ℕ) → IsCallLeft us a → Contains (actors_of us) a
 left_among [] a h = absurd h
 left_among (u ∷ us) a (inl here) = (0, omega arith, here.0)
 left_among (u ∷ us) a (inr more) = (let k = left_among us a more in (k.0 + 1, omega (arith, k.1), (let e : k.0 + 1 ≡ suc k.0 = omega arith in rw e k.2)))

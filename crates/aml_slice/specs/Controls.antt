@@ -71,13 +71,13 @@ StandsOn [] a = ⊥
 StandsOn (f ∷ fs) a = (f.actor ≡ a) ⊎ StandsOn fs a
 
 -- of what was declared, some call of the actor is left
-abbrev pub IsLeft : List (ActorId × ℕ) → ℕ → Type 0
-IsLeft [] a = ⊥
-IsLeft (u ∷ us) a = ((u.0.0 ≡ a) × (1 ≤ u.1)) ⊎ IsLeft us a
+abbrev pub IsCallLeft : List (ActorId × ℕ) → ℕ → Type 0
+IsCallLeft [] a = ⊥
+IsCallLeft (u ∷ us) a = ((u.0.0 ≡ a) × (1 ≤ u.1)) ⊎ IsCallLeft us a
 
 abbrev pub HasLeft : Option (List (ActorId × ℕ)) → ℕ → Type 0
 HasLeft None a = ⊥
-HasLeft (Some us) a = IsLeft us a
+HasLeft (Some us) a = IsCallLeft us a
 
 -- a frame stands on the actor, or calls of it that were declared are left
 abbrev pub RestsOn : Rest → ℕ → Type 0

@@ -3,7 +3,7 @@
 ghost use Rattle.std.specs.Prelude.{◌≡◌, ◌<◌, ◌==◌, ◌≤◌, ◌+◌, ◌∷◌, ◌++◌, ℕ, [], List, Some, vec_capacity, IfOk, IsTrue, ◌↔◌, option_map, Contains};
 ghost use Rattle.std.specs.List.{list_any};
 ghost use Rattle.snap_base.specs.declared.transactions.State.{State};
-ghost use Rattle.aml_slice.specs.Controls.{IsLeft, HasLeft};
+ghost use Rattle.aml_slice.specs.Controls.{IsCallLeft, HasLeft};
 ghost use Rattle.aml_slice.specs.Views.{IsEnough};
 ghost use Rattle.aml_check.specs.Meaning.{actor_of, one_call, with_actor, declared, admitted};
 
@@ -41,7 +41,7 @@ fn is_called(actors: &[u16], actor: u16) -> bool
 
 /// Whether a call of the actor is left.
 fn is_left(uses: &[(ActorId, u8)], actor: u16) -> bool
-    ensures { IsTrue result ↔ IsLeft uses.now actor }
+    ensures { IsTrue result ↔ IsCallLeft uses.now actor }
 {
     for one in uses {
         if one.0.0 == actor && one.1 > 0 {

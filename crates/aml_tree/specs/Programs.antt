@@ -22,5 +22,5 @@ pub record IsProgramText (text : List ℕ) (p : List TextMethod) : Type 0 where
   pub program : IsProgram p
 
 -- the text is one of the same program, but for the lines
-abbrev pub IsTextOf : List ℕ → List TextMethod → Type 0
-IsTextOf text p = (q : List TextMethod) × IsProgramText text q × (bare q ≡ bare p)
+abbrev pub IsTextOfProgram : List ℕ → List TextMethod → Type 0
+IsTextOfProgram text p = (q : List TextMethod) × IsProgramText text q × (bare q ≡ bare p)

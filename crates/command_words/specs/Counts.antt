@@ -9,5 +9,5 @@ abbrev pub TakesCountAndSeed : List ℕ → Type 0
 TakesCountAndSeed name = (name ≡ codes "gen") ⊎ (name ≡ codes "bench")
 
 -- the words are a count, a seed, and the rest
-abbrev pub IsCounted : List (List ℕ) → ℕ → ℕ → List (List ℕ) → Type 0
-IsCounted words count s rest = (words ≡ decimal count ∷ decimal s ∷ rest) × (count ≤ MOST_TRANSACTIONS) × (s < 2 ^ 64)
+abbrev pub IsCountAndSeed : List (List ℕ) → ℕ → ℕ → List (List ℕ) → Type 0
+IsCountAndSeed words count s rest = (words ≡ decimal count ∷ decimal s ∷ rest) × (count ≤ MOST_TRANSACTIONS) × (s < 2 ^ 64)

@@ -2,7 +2,7 @@
 ghost use Rattle.std.specs.Prelude.{◌≡◌, ◌<◌, ◌≤◌, ◌^◌, ◌∷◌, List, ℕ, map, codes, IfErr, IfOk, MatchResult, string_bytes};
 ghost use Rattle.std.specs.Fmt.{decimal};
 ghost use Rattle.command_words.specs.Commands.{IsCommand};
-ghost use Rattle.command_words.specs.Counts.{IsCounted, TakesCountAndSeed};
+ghost use Rattle.command_words.specs.Counts.{IsCountAndSeed, TakesCountAndSeed};
 ghost use Rattle.command_words.specs.Words.{IsUsageFault};
 ghost use Rattle.snap_work.specs.declared.limits.TheConstants.{MOST_TRANSACTIONS};
 
@@ -122,7 +122,7 @@ fn read_last_workers(words: &[String], count: u32, seed: u64) -> Result<Command,
 
 /// A number of transactions and a seed, behind the name of a command that takes them, and the words behind these.
 fn read_count_and_seed(words: &[String]) -> Result<(u32, u64, &[String]), u32>
-    ensures found { IfOk result (λ x. IsCounted (map string_bytes words.now) x.0 x.1 (map string_bytes x.2.now)) }
+    ensures found { IfOk result (λ x. IsCountAndSeed (map string_bytes words.now) x.0 x.1 (map string_bytes x.2.now)) }
     ensures fault { IfErr result (λ place. (name : List ℕ) → TakesCountAndSeed name → IsUsageFault (name ∷ map string_bytes words.now) place) }
 {
     let Some((word, rest)) = words.split_first() else {

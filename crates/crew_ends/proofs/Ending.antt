@@ -9,7 +9,7 @@ use Rattle.snap_hand.specs.core_rows.OnRuns.{HasRun}
 use Rattle.crew_ends.specs.Ends.{AreBeside, AreDue, IsSomeEnd, log_at}
 use Rattle.crew_ends.specs.Lists.{HaveJournals, HaveOutput, besides_of, parts_of}
 use Rattle.crew_ends.proofs.OneOver.{mapped_from}
-use Rattle.crew_parts.specs.Crews.{Begins, HasCome, IsStillDue, JournalIs, OutputIs}
+use Rattle.crew_parts.specs.Crews.{AreFirstShares, HasCome, IsStillDue, JournalIs, OutputIs}
 use Rattle.crew_parts.specs.Shares.{BesideState, OutputState, ShareState}
 use Rattle.gate_log.specs.State.{LogState, is_log_shut}
 use Rattle.protocol.specs.Events.{Event, desk, log}
@@ -80,7 +80,7 @@ module _ (w : Fixed Rest) (now : List ShareState) (end : IsSomeEnd w now) where
 -- ---- what it made of the journals and the output
 
 module _ (w : Fixed Rest) (start now : List ShareState) (es : List Event) (old new : List LogState) (before after : OutputState)
-    (begun : Begins w start) (come : HasCome w start es now) (first : AreBeside old before start) (last : AreBeside new after now) where
+    (begun : AreFirstShares w start) (come : HasCome w start es now) (first : AreBeside old before start) (last : AreBeside new after now) where
   pub outputs_goes : OutputIs w es (Some before) (Some after)
   outputs_goes =
       let x = one_at start desk (omega (arith, begun.many)) in
@@ -102,7 +102,7 @@ module _ (w : Fixed Rest) (start now : List ShareState) (es : List Event) (old n
   )
 
 module _ (w : Fixed Rest) (start now : List ShareState) (es : List Event) (new : List LogState) (after : OutputState)
-    (begun : Begins w start) (come : HasCome w start es now) (last : AreBeside new after now) where
+    (begun : AreFirstShares w start) (come : HasCome w start es now) (last : AreBeside new after now) where
   pub still_due : length new ≡ w.text.logs → AreDue w es new
   still_due news l within shut =
       let inside : l < w.text.logs = omega (arith, news, within) in

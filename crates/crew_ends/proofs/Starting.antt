@@ -6,7 +6,7 @@ use Rattle.aml_slice.specs.Controls.{Rest}
 use Rattle.crew_ends.specs.Ends.{AreBeside}
 use Rattle.crew_ends.specs.Lists.{parts_of}
 use Rattle.crew_ends.proofs.Ending.{shares_begin}
-use Rattle.crew_parts.specs.Crews.{Begins}
+use Rattle.crew_parts.specs.Crews.{AreFirstShares}
 use Rattle.crew_parts.specs.Shares.{OutputState, ShareState}
 use Rattle.gate_log.specs.State.{LogState}
 use Rattle.gate_log.specs.declared.limits.TheConstants.{FARTHEST_END}
@@ -22,7 +22,7 @@ at_of P (y ∷ xs) (suc i) x all h = at_of P xs i x all.1 h
 
 pub begin : (w : Fixed Rest) (xs : List ShareState) (ps : List Shown) (logs : List LogState) (out : OutputState)
     → parts_of xs ≡ ps → AreAllParts w (opening w) ps → AreBeside logs out xs → length logs ≡ w.text.logs
-    → AllByRecursion (λ l. l.shut ≡ false) logs → AllByRecursion (λ l. l.end ≤ FARTHEST_END + 2 ^ 32) logs → out.failed ≡ false → Begins w xs
+    → AllByRecursion (λ l. l.shut ≡ false) logs → AllByRecursion (λ l. l.end ≤ FARTHEST_END + 2 ^ 32) logs → out.failed ≡ false → AreFirstShares w xs
 begin w xs ps logs out same parts beside many ready ends fresh =
     let all = shares_begin w xs ps same parts in
     record {

@@ -1,7 +1,7 @@
 -- What stands beside the shares that a crew begins with and ends with, and which Syncs are still to come.
 use Rattle.std.specs.Prelude.{◌≡◌, ℕ, ◌<◌, true, Some, List, length, slice_get}
 use Rattle.aml_slice.specs.Controls.{Rest}
-use Rattle.crew_parts.specs.Crews.{Begins, HasCome}
+use Rattle.crew_parts.specs.Crews.{AreFirstShares, HasCome}
 use Rattle.crew_parts.specs.Shares.{OutputState, ShareState}
 pub use Rattle.gate_log.specs.State.{log_at}
 use Rattle.gate_log.specs.State.{LogState}
@@ -21,7 +21,7 @@ pub record AreBeside (journals : List LogState) (out : OutputState) (xs : List S
 pub record IsSomeEnd (w : Fixed Rest) (now : List ShareState) : Type 0 where
   pub start : List ShareState
   pub events : List Event
-  pub begun : Begins w start
+  pub begun : AreFirstShares w start
   pub come : HasCome w start events now
 
 -- ---- what became of the journals

@@ -3,7 +3,7 @@ ghost use Rattle.std.specs.Prelude.{◌≡◌, ◌+◌, ◌≤◌, ◌^◌, [], 
 ghost use Rattle.std.specs.List.{AllByRecursion};
 ghost use Rattle.crew_ends.specs.Ends.{AreBeside};
 ghost use Rattle.crew_ends.specs.Rooms.{IsRoomFor};
-ghost use Rattle.crew_parts.specs.Crews.{Begins};
+ghost use Rattle.crew_parts.specs.Crews.{AreFirstShares};
 ghost use Rattle.crew_parts.specs.Shares.{output_seen};
 ghost use Rattle.gate_log.specs.declared.limits.TheConstants.{FARTHEST_END};
 ghost use Rattle.snap_core.specs.Cores.{IsAt};
@@ -32,7 +32,7 @@ pub fn shares_of<D: LogDev, O: Sink>(
     requires format { AllByRecursion (λ l. l.format ≡ 2) logs.items }
     requires ends { AllByRecursion (λ l. l.end ≤ FARTHEST_END + 2 ^ 32) logs.items }
     ensures tables { IfOk result (λ made. (made.tables ≡ core.tables) × AreTables made.tables) }
-    ensures begins { IfOk result (λ made. Begins (fixed_of core.tables) made.shares.items) }
+    ensures begins { IfOk result (λ made. AreFirstShares (fixed_of core.tables) made.shares.items) }
     ensures beside { IfOk result (λ made. AreBeside logs.items (output_seen O.taken O.faults O.late false out) made.shares.items) }
     ensures room { IfOk result (λ made. IsRoomFor (fixed_of core.tables) made.room) }
     ensures back { IfErr result (λ kept. (kept.0 ≡ core) × ((kept.1 ≡ logs) × (kept.2 ≡ out))) }

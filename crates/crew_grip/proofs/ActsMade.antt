@@ -7,7 +7,7 @@ use Rattle.aml_slice.specs.Controls.{Rest}
 use Rattle.snap_hand.specs.core_rows.declared.step_no.StepNo.{StepNo}
 use Rattle.snap_hand.specs.core_rows.declared.step_no.StepNo.TheVariants.{NotNow, Memory}
 use Rattle.crew_parts.specs.Acts.{may_break}
-use Rattle.crew_parts.specs.Besides.{IsSound}
+use Rattle.crew_parts.specs.Besides.{IsSoundBeside}
 use Rattle.crew_parts.specs.Crews.{Stands}
 use Rattle.crew_parts.specs.Shares.{BesideState, ShareState}
 use Rattle.protocol.specs.Conditions.{IsAllowed, refusal}
@@ -32,10 +32,10 @@ covers_ready logs w held g [] grip all = tt
 covers_ready logs w held g (i ∷ is) grip all =
     (sym (is_some_map (λ x. x.beside) (at held i)) ∙ ap is_some (sym (grip.besides i) ∙ all.0.there), covers_ready logs w held g is grip all.1)
 
-sound_ready : (logs : ℕ) (g : GripState) (is : List ℕ) → AllByRecursion (IsReadyAt logs g) is → (i : ℕ) (b : BesideState) → is_among i is ≡ true → at g.besides i ≡ Some b → IsSound logs i b
+sound_ready : (logs : ℕ) (g : GripState) (is : List ℕ) → AllByRecursion (IsReadyAt logs g) is → (i : ℕ) (b : BesideState) → is_among i is ≡ true → at g.besides i ≡ Some b → IsSoundBeside logs i b
 sound_ready logs g [] all i b among there = absurd (true≢false (sym among))
 sound_ready logs g (j ∷ js) all i b among there = elim (eqb_tells j i) [
-  | inl h ↦ subst (λ k. IsSound logs k b) h.1 (subst (IsSound logs j) (same all.0.beside b (sym all.0.there ∙ (ap (at g.besides) h.1 ∙ there))) all.0.sound)
+  | inl h ↦ subst (λ k. IsSoundBeside logs k b) h.1 (subst (IsSoundBeside logs j) (same all.0.beside b (sym all.0.there ∙ (ap (at g.besides) h.1 ∙ there))) all.0.sound)
   | inr h ↦ sound_ready logs g js all.1 i b (sym (ap (λ t. t || is_among i js) h.0) ∙ among) there
 ] where
   same : (x y : BesideState) → Some x ≡ Some y → x ≡ y
@@ -44,7 +44,7 @@ sound_ready logs g (j ∷ js) all i b among there = elim (eqb_tells j i) [
 pub are_sound : (logs : ℕ) (w : Fixed Rest) (held : List (Option ShareState)) (g : GripState) (is : List ℕ) → IsGripOf w held g → AllByRecursion (IsReadyAt logs g) is
     → ((i : ℕ) → is_among i is ≡ false → at held i ≡ None) → AreSound logs g
 are_sound logs w held g is grip all others i b there = told (is_among i is) refl where
-  told : (t : Bool) → is_among i is ≡ t → IsSound logs i b
+  told : (t : Bool) → is_among i is ≡ t → IsSoundBeside logs i b
   told true q = sound_ready logs g is all i b q there
   told false q = absurd (none_some (sym (grip.besides i ∙ ap beside_in (others i q)) ∙ there)) where
     none_some : None ≡ Some b → ⊥

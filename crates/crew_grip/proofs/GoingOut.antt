@@ -12,7 +12,7 @@ use Rattle.core_events.specs.declared.events.Event.TheVariants as events
 use Rattle.snap_hand.specs.core_rows.OnRuns.{HasRun}
 use Rattle.crew_parts.specs.Acts.{HasPrinted, JournalGoes, OutputGoes, Prints, groups_by, line_at, tried_by}
 use Rattle.crew_parts.specs.Besides.{HasAppended, HasBrokenOff, HasWritten, MayAppendTo, JournalBecame, OutputBecame, is_ready_journal, is_ready_output}
-use Rattle.crew_parts.specs.Crews.{Begins, JournalIs, Stands}
+use Rattle.crew_parts.specs.Crews.{AreFirstShares, JournalIs, Stands}
 use Rattle.crew_parts.specs.Shares.{BesideState, OutputState, ShareState}
 use Rattle.crew_parts.proofs.FewActs.{synced_exists}
 use Rattle.gate_log.specs.Device.{MayAppend}
@@ -207,7 +207,7 @@ module _ (w : Fixed Rest) (laws : Drives) (runs : RunsOf w) (held : List (Option
       may_append s run fits j is = subst (MayAppend j.end) (sym (are_spelled s fits)) (may_group s run j.end (low j is)).may
 
 -- the gate of a journal that is held did not go far
-pub gate_is_low : (w : Fixed Rest) (start : List ShareState) (held : List (Option ShareState)) (l : ℕ) (x : ShareState) (j : LogState) → RunsOf w → Begins w start → Stands w start held → l < w.text.logs
+pub gate_is_low : (w : Fixed Rest) (start : List ShareState) (held : List (Option ShareState)) (l : ℕ) (x : ShareState) (j : LogState) → RunsOf w → AreFirstShares w start → Stands w start held → l < w.text.logs
     → at held (log l) ≡ Some x → x.beside.journal ≡ Some j → j.end ≤ FARTHEST_APPEND + most_bytes
 gate_is_low w start held l x j runs begins st within here is =
     let first = there start (log l) (omega (arith, within, begins.many)) in
@@ -299,7 +299,7 @@ sync_within w l start held g runs says st grip allowed =
 pub log_held : (w : Fixed Rest) (held : List (Option ShareState)) (g : GripState) (i : ℕ) (is : List ℕ) → IsGripOf w held g → IsJust (i ∷ is) held → (x : ShareState) × ((at held i ≡ Some x) × (at g.besides i ≡ Some x.beside))
 log_held w held g i is grip just = let x = some_of (at held i) just.all.0 in (x.0, (x.1, grip.besides i ∙ ap beside_in x.1))
 
-module _ (w : Fixed Rest) (laws : Drives) (runs : RunsOf w) (start : List ShareState) (held : List (Option ShareState)) (g : GripState) (l : ℕ) (within : l < w.text.logs) (begins : Begins w start) (st : Stands w start held)
+module _ (w : Fixed Rest) (laws : Drives) (runs : RunsOf w) (start : List ShareState) (held : List (Option ShareState)) (g : GripState) (l : ℕ) (within : l < w.text.logs) (begins : AreFirstShares w start) (st : Stands w start held)
     (grip : IsGripOf w held g) (just : IsJust (log l ∷ []) held) (sound : AreSound w.text.logs g) (pieces : List (List ℕ)) (waits : AreWaiting g l pieces)
   where
     pub may_append_to : (x : ShareState) → at held (log l) ≡ Some x → at g.besides (log l) ≡ Some x.beside → MayAppendTo x.beside pieces

@@ -2,7 +2,7 @@
 use Rattle.std.proofs.Common.{◌≡◌, ℕ, Bool, true, false, inl, inr, ◌||◌, is_some, List, [], ◌∷◌, map, Option, None, Some, ap, sym, subst, refl, ◌∙◌, true≢false}
 use Rattle.aml_slice.specs.Controls.{Rest}
 use Rattle.snap_hand.specs.core_rows.OnRuns.{HasRun}
-use Rattle.crew_parts.specs.Acts.{AreShown, EachGoes, Goes, behind}
+use Rattle.crew_parts.specs.Acts.{AreShown, EachGoes, ShareGoes, behind}
 use Rattle.crew_parts.specs.Shares.{ShareState, share_of}
 use Rattle.protocol.specs.Conditions.{IsAllowed}
 use Rattle.protocol.specs.Events.{Event}
@@ -62,7 +62,7 @@ module _ (w : Fixed Rest) (held : List (Option ShareState)) (old new : GripState
           let x = some_of (at held j) c.0 in
           let y = new_share j x.0 x.1 in
           let goes = acted.besides s run fits j x.0.beside y.0.beside (grip.besides j ∙ ap beside_in x.1) y.1.1.1 in
-          let one : Goes w s done e j x.0 y.0 = record {
+          let one : ShareGoes w s done e j x.0 y.0 = record {
             part = taken_is new.hand (behind w done e s) j y.0.part acted.places (acted.fits s run fits) y.1.1.0;
             journal = goes.journal;
             output = goes.output;

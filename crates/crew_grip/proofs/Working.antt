@@ -7,7 +7,7 @@ use Rattle.std.proofs.lemmas.List.{length-set}
 use Rattle.std.proofs.lemmas.Option.{slice_get_within}
 use Rattle.aml_slice.specs.Controls.{Rest}
 use Rattle.crew_parts.specs.Acts.{MayDo, touched}
-use Rattle.crew_parts.specs.Crews.{Begins, Stands}
+use Rattle.crew_parts.specs.Crews.{AreFirstShares, Stands}
 use Rattle.crew_parts.specs.Shares.{ShareState}
 use Rattle.crew_parts.specs.declared.acts.Act.{Act}
 use Rattle.protocol.specs.Fixed.{Fixed}
@@ -145,10 +145,10 @@ gave w held g g1 i stays sets grip is =
 
 -- what a pass knows, said of the table's own tables
 pub stands_now : (t u : Tables) → t ≡ u
-    → ((start : List ShareState) (held : List (Option ShareState)) (entries : List (ℕ × Act)) → Begins (fixed_of t) start → Fits (touched t) (MayDo t) start held entries → Stands (fixed_of t) start held)
-    → (start : List ShareState) (held : List (Option ShareState)) (entries : List (ℕ × Act)) → Begins (fixed_of u) start → Fits (touched u) (MayDo u) start held entries → Stands (fixed_of u) start held
+    → ((start : List ShareState) (held : List (Option ShareState)) (entries : List (ℕ × Act)) → AreFirstShares (fixed_of t) start → Fits (touched t) (MayDo t) start held entries → Stands (fixed_of t) start held)
+    → (start : List ShareState) (held : List (Option ShareState)) (entries : List (ℕ × Act)) → AreFirstShares (fixed_of u) start → Fits (touched u) (MayDo u) start held entries → Stands (fixed_of u) start held
 stands_now t u same law =
-    subst (λ v. (start : List ShareState) (held : List (Option ShareState)) (entries : List (ℕ × Act)) → Begins (fixed_of v) start → Fits (touched v) (MayDo v) start held entries → Stands (fixed_of v) start held) same law
+    subst (λ v. (start : List ShareState) (held : List (Option ShareState)) (entries : List (ℕ × Act)) → AreFirstShares (fixed_of v) start → Fits (touched v) (MayDo v) start held entries → Stands (fixed_of v) start held) same law
 
 -- what is held of a run is a part of its state
 pub part_of_run : (w : Fixed Rest) (start : List ShareState) (held : List (Option ShareState)) (i : ℕ) (x : ShareState) → (st : Stands w start held) → at held i ≡ Some x → IsPartOf w (reached w st.events) i x.part
@@ -165,9 +165,9 @@ gave_fits t start v u i fits is =
 
 -- and its pass has room
 pub has_room : (t u : Tables) → t ≡ u
-    → ((start : List ShareState) (held : List (Option ShareState)) (entries : List (ℕ × Act)) → Begins (fixed_of t) start → Fits (touched t) (MayDo t) start held entries → Ascending entries → length entries < MOST_ENTRIES)
-    → (start : List ShareState) (held : List (Option ShareState)) (entries known : List (ℕ × Act)) → Begins (fixed_of u) start → Fits (touched u) (MayDo u) start held known → entries ≡ known → Ascending entries
+    → ((start : List ShareState) (held : List (Option ShareState)) (entries : List (ℕ × Act)) → AreFirstShares (fixed_of t) start → Fits (touched t) (MayDo t) start held entries → Ascending entries → length entries < MOST_ENTRIES)
+    → (start : List ShareState) (held : List (Option ShareState)) (entries known : List (ℕ × Act)) → AreFirstShares (fixed_of u) start → Fits (touched u) (MayDo u) start held known → entries ≡ known → Ascending entries
     → length entries < MOST_ENTRIES
 has_room t u same law start held entries known begins fits is rises =
-    subst (λ v. Begins (fixed_of v) start → Fits (touched v) (MayDo v) start held entries → length entries < MOST_ENTRIES) same (λ b f. law start held entries b f rises)
+    subst (λ v. AreFirstShares (fixed_of v) start → Fits (touched v) (MayDo v) start held entries → length entries < MOST_ENTRIES) same (λ b f. law start held entries b f rises)
     begins (subst (Fits (touched u) (MayDo u) start held) (sym is) fits)

@@ -10,7 +10,7 @@ use Rattle.crew_grip.specs.declared.results.NotDone.{NotDone}
 use Rattle.crew_grip.specs.declared.results.NotDone.TheVariants as undone
 use Rattle.core_events.specs.declared.events.Event as code
 use Rattle.crew_parts.specs.Acts.{JournalGoes, OutputGoes, behind, may_break, meant}
-use Rattle.crew_parts.specs.Besides.{IsSound}
+use Rattle.crew_parts.specs.Besides.{IsSoundBeside}
 use Rattle.crew_parts.specs.Crews.{Stands}
 use Rattle.crew_parts.specs.Shares.{BesideState, ShareState}
 use Rattle.crew_parts.specs.declared.acts.Act.{Act}
@@ -43,19 +43,19 @@ pub record IsJustHeld (turns : CrewTurns) (e : Event) (g : GripState) : Type 0 w
 pub record IsReadyAt (logs : ℕ) (g : GripState) (i : ℕ) : Type 0 where
   pub beside : BesideState
   pub there : at g.besides i ≡ Some beside
-  pub sound : IsSound logs i beside
+  pub sound : IsSoundBeside logs i beside
 
 -- all parts that the event touches
 abbrev pub AreReady : ℕ → Event → GripState → Type 0
 AreReady logs e g = AllByRecursion (λ i. IsReadyAt logs g i) (footprint logs e)
 
 -- in each state that the hand fits, the same condition of the event is the first false one
-abbrev pub IsRefused : Fixed Rest → Event → Parts → Type 0
-IsRefused w e h = (rule : ℕ) × ((1 ≤ rule) × IsRefusalOn w e h rule)
+abbrev pub IsEventRefused : Fixed Rest → Event → Parts → Type 0
+IsEventRefused w e h = (rule : ℕ) × ((1 ≤ rule) × IsRefusalOn w e h rule)
 
 -- what stands beside each of them can go on
 abbrev pub AreSound : ℕ → GripState → Type 0
-AreSound logs g = (i : ℕ) (b : BesideState) → at g.besides i ≡ Some b → IsSound logs i b
+AreSound logs g = (i : ℕ) (b : BesideState) → at g.besides i ≡ Some b → IsSoundBeside logs i b
 
 -- what stands beside part i got what the event gives it
 pub record BesideGoes (w : Fixed Rest) (s : Machine Rest) (done : Bool) (e : Event) (i : ℕ) (old new : BesideState) : Type 0 where

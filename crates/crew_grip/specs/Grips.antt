@@ -3,7 +3,7 @@ use Rattle.std.specs.Prelude.{◌≡◌, ℕ, ◌+◌, Option, None, Some, optio
 use Rattle.aml_slice.specs.Controls.{Rest}
 use Rattle.crew_parts.specs.atomic_table.declared.shared.Seat.{Seat}
 use Rattle.crew_parts.specs.Acts.{MayDo, touched}
-use Rattle.crew_parts.specs.Crews.{Begins, Stands}
+use Rattle.crew_parts.specs.Crews.{AreFirstShares, Stands}
 use Rattle.crew_parts.specs.Shares.{BesideState, ShareState, share_of}
 use Rattle.crew_parts.specs.declared.acts.Act.{Act}
 use Rattle.protocol.specs.Fixed.{Fixed}
@@ -57,7 +57,7 @@ CrewSeat = Seat (Option ShareState) (View ShareState Act)
 -- the table is one of an accepted text, whose parts were those of a beginning
 pub record IsCrew (turns : CrewTurns) : Type 0 where
   pub tables : AreTables (tables_of turns)
-  pub begins : Begins (fixed_of (tables_of turns)) (opening_of turns)
+  pub begins : AreFirstShares (fixed_of (tables_of turns)) (opening_of turns)
 
 -- The pass is one of the table, the grip has what the pass holds, and some run has come to that: acts in which what the pass recorded
 -- stands at its numbers.

@@ -2,7 +2,7 @@
 ghost use Rattle.std.specs.List.{AllByRecursion};
 ghost use Rattle.std.specs.Prelude.{◌≡◌, ◌<◌, ◌++◌, ◌∷◌, [], ℕ, None, IfOk, OnOk, OnErr, true, false, vec_len, vec_capacity};
 ghost use Rattle.core_events.specs.Meant.{event_meant};
-ghost use Rattle.crew_grip.specs.Acted.{AreReady, AreSound, HasActed, IsJust, IsReadyAt, IsRecorded, IsRefused, IsStepped};
+ghost use Rattle.crew_grip.specs.Acted.{AreReady, AreSound, HasActed, IsJust, IsReadyAt, IsRecorded, IsEventRefused, IsStepped};
 ghost use Rattle.crew_grip.specs.Grips.{GripState, IsAtWork, IsCrew, IsGripOf, IsHeldNow};
 ghost use Rattle.crew_parts.specs.Acts.{meant};
 ghost use Rattle.crew_parts.specs.declared.acts.Act.{Act};
@@ -133,7 +133,7 @@ impl<D: LogDev + Drop, O: Sink + Drop> Grip<D, O> {
         ensures others { (i : ℕ) → is_among i (machine.footprint (text_of (tables_of turns.now)).logs (event_meant e)) ≡ false → at (knows pass.new.seat).held i ≡ None }
         ensures entries { IsRecorded e pass.old.entries.items pass.new.entries.items result }
         ensures unready { result ≡ Acted.Unready → AreReady (text_of (tables_of turns.now)).logs (event_meant e) self.old → ⊥ }
-        ensures not_now { result ≡ Acted.NotNow → IsRefused (fixed_of (tables_of turns.now)) (event_meant e) self.old.hand }
+        ensures not_now { result ≡ Acted.NotNow → IsEventRefused (fixed_of (tables_of turns.now)) (event_meant e) self.old.hand }
         ensures splits { splits_of pass.new.seat ≡ splits_of pass.old.seat }
     {
         let tables = turns.tables();

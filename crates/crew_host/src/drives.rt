@@ -6,7 +6,7 @@ ghost use Rattle.crew_ends.specs.Ends.{AreBeside, AreDue};
 ghost use Rattle.crew_ends.specs.Rooms.{IsRoomFor};
 ghost use Rattle.crew_host.specs.Drives.{IsCrewStop};
 ghost use Rattle.crew_host.specs.Stops.{IsStopBy};
-ghost use Rattle.crew_parts.specs.Crews.{Begins, HasCome, OutputIs, kept};
+ghost use Rattle.crew_parts.specs.Crews.{AreFirstShares, HasCome, OutputIs, kept};
 ghost use Rattle.crew_parts.specs.Shares.{ShareState, output_seen};
 ghost use Rattle.gate_log.specs.State.{is_log_shut};
 ghost use Rattle.run_effects.specs.Driven.{AreDriven};
@@ -113,7 +113,7 @@ fn run_or_stay<
     workers: usize,
 ) -> Ending<D, O>
     requires tables { AreTables tables }
-    requires begins { Begins (fixed_of tables) shares.items }
+    requires begins { AreFirstShares (fixed_of tables) shares.items }
     requires workers { workers ≤ MOST_WORKERS }
     ensures tables { result.tables ≡ tables }
     ensures come { HasCome (fixed_of tables) shares.items (kept result.acts.items) result.shares.items }
@@ -168,7 +168,7 @@ fn ended<R: Wait, D: LogDev + Drop, O: Sink + Drop>(
     room: Room<D>,
 ) -> CrewEnd<D, O>
     requires tables { AreTables ending.tables }
-    requires come { (start : List ShareState) × (Begins (fixed_of ending.tables) start × HasCome (fixed_of ending.tables) start (kept ending.acts.items) ending.shares.items) }
+    requires come { (start : List ShareState) × (AreFirstShares (fixed_of ending.tables) start × HasCome (fixed_of ending.tables) start (kept ending.acts.items) ending.shares.items) }
     requires room { IsRoomFor (fixed_of ending.tables) room }
     ensures tables { result.core.tables ≡ ending.tables }
     ensures kept { map event_meant result.kept.items ≡ kept ending.acts.items }

@@ -2,7 +2,7 @@
 use Rattle.std.proofs.Common.{◌≡◌, ℕ, if◌then◌else◌, Bool, true, false, inl, inr, Option, None, Some, List, [], ◌∷◌, ◌++◌, slice_get, refl, sym, ap, subst, ◌∙◌, arith, append_assoc, append-nil}
 use Rattle.aml_slice.specs.Controls.{Rest}
 use Rattle.crew_parts.specs.Acts.{Happens, behind, meant, groups_by}
-use Rattle.crew_parts.specs.Crews.{Begins, HasCome, JournalIs, IsReady, IsFresh, OutputIs, PrintedOrBrokeOff, added, kept}
+use Rattle.crew_parts.specs.Crews.{AreFirstShares, HasCome, JournalIs, IsReady, IsFresh, OutputIs, PrintedOrBrokeOff, added, kept}
 use Rattle.crew_parts.specs.LawsOfRuns.{LawsOfRuns, VerdictsGoOn}
 use Rattle.crew_parts.specs.Shares.{OutputState, ShareState}
 use Rattle.crew_parts.specs.declared.acts.Act.{Act}
@@ -115,7 +115,7 @@ module _ (w : Fixed Rest) (laws : LawsOfRuns w) where
     output_begins o fresh = subst (λ p. OutputIs w [] p p) (sym fresh.is)
         (omega arith, subst (λ b. PrintedOrBrokeOff b w [] fresh.output fresh.output) (sym fresh.ready) (Appends-nil fresh.output.taken), no_call _ _ _)
 
-    pub begins : Begins w start → HasCome w start [] start
+    pub begins : AreFirstShares w start → HasCome w start [] start
     begins b = record {
       run = tt;
       many = refl;

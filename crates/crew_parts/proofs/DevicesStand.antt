@@ -21,7 +21,7 @@ use Rattle.protocol.specs.Words.{holds, is_among}
 use Rattle.run_effects.specs.record_log.Growth.{GrewBy, IsNextBegun, begun_groups, end_behind_groups}
 use Rattle.run_effects.specs.Groups.{group_behind, group_by, groups_of, waiting}
 use Rattle.protocol.specs.Effects.{log_at}
-use Rattle.snap_outside.specs.Disk.{History, content, with_ops}
+use Rattle.snap_outside.specs.Disk.{DeviceHistory, content, with_ops}
 use Rattle.snap_outside.specs.declared.devices.DevOp.{DevOp}
 use Rattle.turn_table.specs.Runs.{AllLeave, Run}
 use Rattle.snap_hand.specs.txn_records.declared.records.Record.{Record}
@@ -43,7 +43,7 @@ module _ (w : Fixed Rest) (crew : Crew w) where
   RunTo xs acts ys = Run touches (Happens w) xs acts ys
 
   -- what the journal of log l told as the crew began, behind the groups of before
-  pub record WasOpened (l : ℕ) (h : History) (gate : ℕ) (first : List (List Record)) : Type 0 where
+  pub record WasOpened (l : ℕ) (h : DeviceHistory) (gate : ℕ) (first : List (List Record)) : Type 0 where
     pub share : ShareState
     pub journal : LogState
     pub at : slice_get start (log l) ≡ Some share
@@ -60,12 +60,12 @@ module _ (w : Fixed Rest) (crew : Crew w) where
 
     -- ---- what its share tells
 
-    journal_tells : (h : History) (gate : ℕ) (first : List (List Record)) (o : WasOpened l h gate first) (acts : List Act) (k : Option LogState) → JournalIs w (kept acts) l (Some o.journal) k
+    journal_tells : (h : DeviceHistory) (gate : ℕ) (first : List (List Record)) (o : WasOpened l h gate first) (acts : List Act) (k : Option LogState) → JournalIs w (kept acts) l (Some o.journal) k
         → Tells h gate first (groups acts) (waits_behind acts) (is_shut_there k) (told_by k)
     journal_tells h gate first o acts None none = absurd none
     journal_tells h gate first o acts (Some k) driven = growth_tells h gate first k.told (groups acts) (waits_behind acts) k.shut (driven.grew (Some h) gate first o.grew o.end)
 
-    share_tells : (h : History) (gate : ℕ) (first : List (List Record)) (o : WasOpened l h gate first) (acts : List Act) (xs : List ShareState) → RunTo start acts xs
+    share_tells : (h : DeviceHistory) (gate : ℕ) (first : List (List Record)) (o : WasOpened l h gate first) (acts : List Act) (xs : List ShareState) → RunTo start acts xs
         → Tells h gate first (groups acts) (waits_behind acts) (is_shut_at xs l) (told_at xs l)
     share_tells h gate first o acts xs run =
         let x = there xs (log l) (long w crew l within acts xs run) in
@@ -123,8 +123,8 @@ module _ (w : Fixed Rest) (crew : Crew w) where
           or_none true = refl
           or_none false = refl
 
-      module _ (h : History) (gate : ℕ) (first : List (List Record)) (o : WasOpened l h gate first) where
-        abbrev TellsNow : Bool → Option History → Type 0
+      module _ (h : DeviceHistory) (gate : ℕ) (first : List (List Record)) (o : WasOpened l h gate first) where
+        abbrev TellsNow : Bool → Option DeviceHistory → Type 0
         TellsNow may told = Tells h gate first (groups acts) (waits_behind acts) may told
 
         here : Tells h gate first (groups behind_it) (waits_behind behind_it) (is_shut_at ys l) (told_at ys l)
@@ -214,7 +214,7 @@ module _ (w : Fixed Rest) (crew : Crew w) where
   module _ (acts coming all : List Act) (xs end : List ShareState) (joined : all ≡ acts ++ coming) (came : RunTo start acts xs) (whole : RunTo start all end) where
     -- While a worker holds the log it records one more act, behind others that leave the log alone. The device tells something between
     -- what its share told and what it tells then.
-    pub record GoesOn (l : ℕ) (told : Option History) : Type 0 where
+    pub record GoesOn (l : ℕ) (told : Option DeviceHistory) : Type 0 where
       pub more : List Act
       pub act : Act
       pub rest : List Act
@@ -284,20 +284,20 @@ module _ (w : Fixed Rest) (crew : Crew w) where
           }
 
       -- whether one more append has begun, and what the device tells then
-      record Placed (told : Option History) : Type 0 where
+      record Placed (told : Option DeviceHistory) : Type 0 where
         has_begun : Bool
         under : has_begun ≡ true → IsUnderWay w.text.logs l (kept coming)
         gets : Gets l has_begun
-        tells : (h : History) (gate : ℕ) (first : List (List Record)) → WasOpened l h gate first → Tells h gate first (groups_of w l (kept acts)) (group_behind w l (kept acts)) has_begun told
+        tells : (h : DeviceHistory) (gate : ℕ) (first : List (List Record)) → WasOpened l h gate first → Tells h gate first (groups_of w l (kept acts)) (group_behind w l (kept acts)) has_begun told
 
-      abbrev MayHaveBegun : Bool → Option History → Type 0
-      MayHaveBegun may told = (h : History) (gate : ℕ) (first : List (List Record)) → WasOpened l h gate first → Tells h gate first (groups_of w l (kept acts)) (group_behind w l (kept acts)) may told
+      abbrev MayHaveBegun : Bool → Option DeviceHistory → Type 0
+      MayHaveBegun may told = (h : DeviceHistory) (gate : ℕ) (first : List (List Record)) → WasOpened l h gate first → Tells h gate first (groups_of w l (kept acts)) (group_behind w l (kept acts)) may told
 
       shut_at_end : shut_by l acts ≡ true → is_shut_at end l ≡ true
       shut_at_end shut = shut_told w crew l within all end whole ∙ (ap (shut_by l) joined ∙ shut_stays w crew l within acts coming shut)
 
       -- only what shut it has begun
-      place_at : (told : Option History) (b : Bool) → is_shut_at xs l ≡ b → MayHaveBegun (is_shut_at xs l) told → Placed told
+      place_at : (told : Option DeviceHistory) (b : Bool) → is_shut_at xs l ≡ b → MayHaveBegun (is_shut_at xs l) told → Placed told
       place_at told true shut tells =
           let before = sym (shut_told w crew l within acts xs came) ∙ shut in
           let none = once_shut w crew l within acts coming end (subst (λ es. RunTo start es end) joined whole) before in
@@ -314,12 +314,12 @@ module _ (w : Fixed Rest) (crew : Crew w) where
         tells = λ h gate first o. subst (λ b. Tells h gate first (groups_of w l (kept acts)) (group_behind w l (kept acts)) b told) opened (tells h gate first o);
       }
 
-      place : (told : Option History) → (told ≡ told_at xs l) ⊎ GoesOn l told → Placed told
+      place : (told : Option DeviceHistory) → (told ≡ told_at xs l) ⊎ GoesOn l told → Placed told
       place told (inl same) = place_at told (is_shut_at xs l) refl (λ h gate first o.
           subst (Tells h gate first (groups_of w l (kept acts)) (group_behind w l (kept acts)) (is_shut_at xs l)) (sym same) (share_tells l within h gate first o acts xs came))
       place told (inr g) = by (is_sync l (meant g.act)) refl
         where
-          lies : (may : Bool) → ((h : History) (gate : ℕ) (first : List (List Record)) → WasOpened l h gate first → Tells h gate first (groups_of w l (kept acts)) (group_behind w l (kept acts)) may (told_at g.made l)) → MayHaveBegun may told
+          lies : (may : Bool) → ((h : DeviceHistory) (gate : ℕ) (first : List (List Record)) → WasOpened l h gate first → Tells h gate first (groups_of w l (kept acts)) (group_behind w l (kept acts)) may (told_at g.made l)) → MayHaveBegun may told
           lies may tells h gate first o =
               tells_between h gate first (groups_of w l (kept acts)) (group_behind w l (kept acts)) (is_shut_at xs l) may (told_at xs l) told (told_at g.made l)
               (share_tells l within h gate first o acts xs came) (tells h gate first o) g.through
@@ -356,15 +356,15 @@ module _ (w : Fixed Rest) (crew : Crew w) where
       splits_behind first b gets =
           begun_groups_on first (groups_of w l (kept all)) (tried l) ∙ (ap (λ gs. first ++ gs) gets.splits ∙ sym (append_assoc first (groups_of w l (kept acts)) gets.later))
 
-      next_begun : (told : Option History) (b : Bool) (gets : Gets l b) (h : History) (gate : ℕ) (first : List (List Record)) (tells : Tells h gate first (groups_of w l (kept acts)) (group_behind w l (kept acts)) b told)
+      next_begun : (told : Option DeviceHistory) (b : Bool) (gets : Gets l b) (h : DeviceHistory) (gate : ℕ) (first : List (List Record)) (tells : Tells h gate first (groups_of w l (kept acts)) (group_behind w l (kept acts)) b told)
           → IsNextBegun (end_behind_groups gate (first ++ groups_of w l (kept acts))) gets.later tells.begun
       next_begun told true gets h gate first tells = subst (λ gs. IsNextBegun (end_behind_groups gate (first ++ groups_of w l (kept acts))) gs tells.begun) (sym (gets.is refl).1) (tells.left, tells.front)
       next_begun told false gets h gate first tells =
           subst (IsNextBegun (end_behind_groups gate (first ++ groups_of w l (kept acts))) gets.later) (sym (tells.waits refl)) (none_begun (end_behind_groups gate (first ++ groups_of w l (kept acts))) gets.later)
 
       -- so it stands at a moment at which this is said of the log
-      stands : (told : Option History) (b : Bool) → Gets l b → (has_begun : ℕ → Bool) (under : (k : ℕ) → has_begun k ≡ true → IsUnderWay w.text.logs k (kept coming)) → has_begun l ≡ b
-          → (h : History) (gate : ℕ) (first : List (List Record)) → Tells h gate first (groups_of w l (kept acts)) (group_behind w l (kept acts)) b told
+      stands : (told : Option DeviceHistory) (b : Bool) → Gets l b → (has_begun : ℕ → Bool) (under : (k : ℕ) → has_begun k ≡ true → IsUnderWay w.text.logs k (kept coming)) → has_begun l ≡ b
+          → (h : DeviceHistory) (gate : ℕ) (first : List (List Record)) → Tells h gate first (groups_of w l (kept acts)) (group_behind w l (kept acts)) b told
           → (made : List DevOp) × (told ≡ Some (with_ops h made)) × StandsAt (moment_of has_begun under) l (content h) gate first (begun_on w l first (kept all) end) made
       stands told b gets has_begun under same h gate first tells = (
         made_of h gate first (groups_of w l (kept acts)) tells.begun,
@@ -384,13 +384,13 @@ module _ (w : Fixed Rest) (crew : Crew w) where
 
     -- ---- all logs
 
-    module _ (told : ℕ → Option History) (goes : (l : ℕ) → l < w.text.logs → (told l ≡ told_at xs l) ⊎ GoesOn l (told l)) where
+    module _ (told : ℕ → Option DeviceHistory) (goes : (l : ℕ) → l < w.text.logs → (told l ≡ told_at xs l) ⊎ GoesOn l (told l)) where
       -- of a log that the text has not nothing has begun
       record OfLog (l : ℕ) : Type 0 where
         has_begun : Bool
         under : has_begun ≡ true → IsUnderWay w.text.logs l (kept coming)
         each : l < w.text.logs → Gets l has_begun
-            × ((h : History) (gate : ℕ) (first : List (List Record)) → WasOpened l h gate first → Tells h gate first (groups_of w l (kept acts)) (group_behind w l (kept acts)) has_begun (told l))
+            × ((h : DeviceHistory) (gate : ℕ) (first : List (List Record)) → WasOpened l h gate first → Tells h gate first (groups_of w l (kept acts)) (group_behind w l (kept acts)) has_begun (told l))
 
       of_log : (l : ℕ) → OfLog l
       of_log l = dite (dec_le (suc l) w.text.logs)
@@ -404,7 +404,7 @@ module _ (w : Fixed Rest) (crew : Crew w) where
       pub record Found : Type 0 where
         pub moment : Moment w (kept all)
         pub so_far : moment.events ≡ kept acts
-        pub each : (l : ℕ) → l < w.text.logs → (h : History) (gate : ℕ) (first : List (List Record)) → WasOpened l h gate first
+        pub each : (l : ℕ) → l < w.text.logs → (h : DeviceHistory) (gate : ℕ) (first : List (List Record)) → WasOpened l h gate first
             → (made : List DevOp) × (told l ≡ Some (with_ops h made)) × StandsAt moment l (content h) gate first (begun_on w l first (kept all) end) made
 
       pub found : Found

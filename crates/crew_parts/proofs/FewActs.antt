@@ -6,9 +6,9 @@ use native.Mathlib.Decide.{dec_le}
 use Rattle.std.proofs.lemmas.Bool.{eq-eqb}
 use Rattle.std.proofs.lemmas.Option.{slice_get_cases, slice_get_within}
 use Rattle.aml_slice.specs.Controls.{Rest}
-use Rattle.crew_parts.specs.Acts.{EachGoes, Goes, Happens, OutputGoes, may_break, meant}
+use Rattle.crew_parts.specs.Acts.{EachGoes, ShareGoes, Happens, OutputGoes, may_break, meant}
 use Rattle.crew_parts.specs.Besides.{has_failed_there}
-use Rattle.crew_parts.specs.Crews.{Begins, HasCome, added, kept}
+use Rattle.crew_parts.specs.Crews.{AreFirstShares, HasCome, added, kept}
 use Rattle.crew_parts.specs.Devices.{is_shut}
 use Rattle.crew_parts.specs.LawsOfRuns.{LawsOfRuns}
 use Rattle.crew_parts.specs.Shares.{OutputState, ShareState}
@@ -119,7 +119,7 @@ module _ (w : Fixed Rest) (s : Machine Rest) (done : Bool) (e : Event) (xs made 
     tells i y = replaced_tells xs touches made i y (goes_as_many w s done e touches (values (slice_get xs) touches) made goes)
 
     -- what is true of no part that an act finds stays true
-    stays : (i : ℕ) (test : ShareState → Bool) → ((x y : ShareState) → Goes w s done e i x y → test x ≡ false) → holds test (slice_get xs i) ≡ true → holds test (slice_get now i) ≡ true
+    stays : (i : ℕ) (test : ShareState → Bool) → ((x y : ShareState) → ShareGoes w s done e i x y → test x ≡ false) → holds test (slice_get xs i) ≡ true → holds test (slice_get now i) ≡ true
     stays i test none was =
         let x = held test (slice_get xs i) was in
         let y = there now i (omega (arith, slice_get_within xs i x.0 x.1, as_long xs touches made)) in
@@ -131,7 +131,7 @@ module _ (w : Fixed Rest) (s : Machine Rest) (done : Bool) (e : Event) (xs made 
         ]
 
     -- what each makes true of a part that it touches
-    turns : (i : ℕ) (test : ShareState → Bool) → i < length xs → is_among i touches ≡ true → ((x y : ShareState) → Goes w s done e i x y → (test x ≡ false) × (test y ≡ true))
+    turns : (i : ℕ) (test : ShareState → Bool) → i < length xs → is_among i touches ≡ true → ((x y : ShareState) → ShareGoes w s done e i x y → (test x ≡ false) × (test y ≡ true))
         → (holds test (slice_get xs i) ≡ false) × (holds test (slice_get now i) ≡ true)
     turns i test within among each =
         let y = there now i (omega (arith, within, as_long xs touches made)) in
@@ -215,7 +215,7 @@ module _ (w : Fixed Rest) (laws : LawsOfRuns w) (start : List ShareState) where
       let both = length-append (added a.done e) (kept more) in
       omega arith
 
-  pub few_acts : (acts : List Act) (ys : List ShareState) → Begins w start
+  pub few_acts : (acts : List Act) (ys : List ShareState) → AreFirstShares w start
       → Run (λ b. footprint w.text.logs (meant b)) (Happens w) start acts ys → length acts ≤ most_events * length w.text.txs + (w.text.logs + 1)
   few_acts acts ys begun run =
       let begin = begins w laws start begun in

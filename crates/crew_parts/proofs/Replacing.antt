@@ -3,7 +3,7 @@ use Rattle.std.proofs.Common.{◌≡◌, ◌≢◌, ℕ, zero, suc, Bool, false,
 use Rattle.std.proofs.lemmas.Bool.Decides.{eqb_tells}
 use Rattle.snap_base.proofs.Options.{some_value}
 use Rattle.aml_slice.specs.Controls.{Rest}
-use Rattle.crew_parts.specs.Acts.{Goes, EachGoes, AreShown}
+use Rattle.crew_parts.specs.Acts.{ShareGoes, EachGoes, AreShown}
 use Rattle.crew_parts.specs.Shares.{ShareState}
 use Rattle.protocol.specs.Events.{Event}
 use Rattle.protocol.specs.Fixed.{Fixed}
@@ -73,7 +73,7 @@ module _ (w : Fixed Rest) (s : Machine Rest) where
 
   -- who goes to a place came from what stood there
   pub came_from : (done : Bool) (e : Event) (f : ℕ → Option ShareState) (is : List ℕ) (ys : List ShareState) (i : ℕ) (y : ShareState) → Covers f is
-      → EachGoes w s done e is (values f is) ys → GoesTo i y is ys → (x : ShareState) × (f i ≡ Some x) × Goes w s done e i x y
+      → EachGoes w s done e is (values f is) ys → GoesTo i y is ys → (x : ShareState) × (f i ≡ Some x) × ShareGoes w s done e i x y
   came_from done e f [] ys i y covers goes to = absurd to
   came_from done e f (j ∷ js) [] i y covers goes to = absurd to
   came_from done e f (j ∷ js) (z ∷ zs) i y covers goes to =
@@ -83,7 +83,7 @@ module _ (w : Fixed Rest) (s : Machine Rest) where
         | inl here ↦ (
           there.0,
           subst (λ k. f k ≡ Some there.0) here.0 there.1,
-          subst (λ k. Goes w s done e k there.0 y) here.0 (subst (λ u. Goes w s done e j there.0 u) here.1 each.0),
+          subst (λ k. ShareGoes w s done e k there.0 y) here.0 (subst (λ u. ShareGoes w s done e j there.0 u) here.1 each.0),
         )
         | inr later ↦ came_from done e f js zs i y covers.1 each.1 later
       ]

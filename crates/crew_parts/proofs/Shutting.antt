@@ -7,7 +7,7 @@ use Rattle.std.specs.List.{list_any}
 use Rattle.snap_base.proofs.Options.{some_value}
 use Rattle.snap_base.proofs.Booleans.{or_only}
 use Rattle.aml_slice.specs.Controls.{Rest}
-use Rattle.crew_parts.specs.Acts.{EachGoes, Goes, JournalGoes, meant, tried_at, tried_by}
+use Rattle.crew_parts.specs.Acts.{EachGoes, ShareGoes, JournalGoes, meant, tried_at, tried_by}
 use Rattle.crew_parts.specs.Besides.{is_shut_there}
 use Rattle.crew_parts.specs.Devices.{is_shut, is_shut_at}
 use Rattle.crew_parts.specs.Shares.{ShareState}
@@ -81,14 +81,14 @@ there xs i within = let c = slice_get_cases xs i in elim c.1 [ inl x ↦ (x.0, x
 
 -- of the parts that an act touches each has gone on
 goes_at : (w : Fixed Rest) (s : Machine Rest) (done : Bool) (e : Event) (f : ℕ → Option ShareState) (i : ℕ) (js : List ℕ) (ys : List ShareState) → is_among i js ≡ true → Covers f js
-    → EachGoes w s done e js (values f js) ys → (x y : ShareState) × (f i ≡ Some x) × Goes w s done e i x y
+    → EachGoes w s done e js (values f js) ys → (x y : ShareState) × (f i ≡ Some x) × ShareGoes w s done e i x y
 goes_at w s done e f i [] ys among covers goes = absurd (true≢false (sym among))
 goes_at w s done e f i (j ∷ js) [] among covers goes = absurd (subst (λ o. EachGoes w s done e (j ∷ js) (before o (values f js)) []) (some_value (f j) covers.0).1 goes)
 goes_at w s done e f i (j ∷ js) (z ∷ zs) among covers goes =
     let there = some_value (f j) covers.0 in
     let each : EachGoes w s done e (j ∷ js) (there.0 ∷ values f js) (z ∷ zs) = subst (λ o. EachGoes w s done e (j ∷ js) (before o (values f js)) (z ∷ zs)) there.1 goes in
     elim (eqb_tells j i) [
-      | inl h ↦ (there.0, z, subst (λ k. f k ≡ Some there.0) h.1 there.1, subst (λ k. Goes w s done e k there.0 z) h.1 each.0)
+      | inl h ↦ (there.0, z, subst (λ k. f k ≡ Some there.0) h.1 there.1, subst (λ k. ShareGoes w s done e k there.0 z) h.1 each.0)
       | inr h ↦ goes_at w s done e f i js zs (sym (ap (λ b. b || is_among i js) h.0) ∙ among) covers.1 each.1
     ]
 

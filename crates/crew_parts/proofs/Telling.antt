@@ -8,7 +8,7 @@ use Rattle.gate_log.specs.Opened.{beginning_ops}
 use Rattle.run_effects.proofs.record_log.Growing.{ops_more}
 use Rattle.run_effects.specs.record_log.Growth.{GrewBy, IsNextBegun, begun_groups, end_behind_groups, groups_ops}
 use Rattle.run_effects.specs.record_log.Records.{spelled}
-use Rattle.snap_outside.specs.Disk.{History, AddsAll, content, with_ops}
+use Rattle.snap_outside.specs.Disk.{DeviceHistory, AddsAll, content, with_ops}
 use Rattle.snap_outside.specs.declared.devices.DevOp.{DevOp}
 use Rattle.snap_hand.specs.txn_records.declared.records.Record.{Record}
 
@@ -19,14 +19,14 @@ front_is_none [] ys e = refl
 front_is_none (x ∷ xs) ys e = absurd (cc e)
 
 -- what lies between two histories, of which one has more operations
-between : (h : History) (xs ys : List DevOp) (told : Option History) → GrowsThrough (Some (with_ops h xs)) told (Some (with_ops h ys))
+between : (h : DeviceHistory) (xs ys : List DevOp) (told : Option DeviceHistory) → GrowsThrough (Some (with_ops h xs)) told (Some (with_ops h ys))
     → (made : List DevOp) × (left : List DevOp) × (told ≡ Some (with_ops h (xs ++ made))) × (ys ≡ (xs ++ made) ++ left)
 between h xs ys told through =
     let made = through.made in
     let left = through.left in
     let is : told ≡ Some (with_ops h (xs ++ made)) = through.so_far ∙ ap (λ (ops : List DevOp). Some (record { first = h.first; ops = ops })) (append_assoc h.ops xs made) in
     let behind : Some (with_ops h ys) ≡ Some (with_ops (with_ops h (xs ++ made)) left) = subst (λ t. AddsAll t (Some (with_ops h ys)) left) is through.behind in
-    let same : h.ops ++ ys ≡ h.ops ++ ((xs ++ made) ++ left) = ap (λ (g : History). g.ops) (same_some (with_ops h ys) (with_ops (with_ops h (xs ++ made)) left) behind) ∙ append_assoc h.ops (xs ++ made) left in
+    let same : h.ops ++ ys ≡ h.ops ++ ((xs ++ made) ++ left) = ap (λ (g : DeviceHistory). g.ops) (same_some (with_ops h ys) (with_ops (with_ops h (xs ++ made)) left) behind) ∙ append_assoc h.ops (xs ++ made) left in
     (made, left, is, append_cancel_left h.ops ys ((xs ++ made) ++ left) same)
 
 pub none_begun : (end : ℕ) (later : List (List Record)) → IsNextBegun end later []
@@ -43,7 +43,7 @@ begun_groups_first x xs (Some group) = refl
 
 -- ---- one device
 
-module _ (h : History) (gate : ℕ) (first : List (List Record)) where
+module _ (h : DeviceHistory) (gate : ℕ) (first : List (List Record)) where
   -- its operations, once the log has got these groups, and these are made of one more append
   abbrev pub made_of : List (List Record) → List DevOp → List DevOp
   made_of groups begun = beginning_ops (content h) ++ (groups_ops gate (first ++ groups) ++ begun)
@@ -53,7 +53,7 @@ module _ (h : History) (gate : ℕ) (first : List (List Record)) where
   next_ops groups group = append_ops (end_behind_groups gate (first ++ groups)) (spelled group)
 
   -- It tells the groups, and some or all of the append of one more, where that may have begun.
-  pub record Tells (groups : List (List Record)) (group : List Record) (may : Bool) (told : Option History) : Type 0 where
+  pub record Tells (groups : List (List Record)) (group : List Record) (may : Bool) (told : Option DeviceHistory) : Type 0 where
     pub begun : List DevOp
     pub left : List DevOp
     pub is : told ≡ Some (with_ops h (made_of groups begun))
@@ -70,7 +70,7 @@ module _ (h : History) (gate : ℕ) (first : List (List Record)) where
       let all = groups_ops gate (first ++ groups) in
       append_cancel_left all xs ys (append_cancel_left (beginning_ops (content h)) (all ++ xs) (all ++ ys) e)
 
-  pub growth_tells : (told : Option History) (groups : List (List Record)) (group : List Record) (b : Bool) → GrewBy (Some h) told gate (first ++ groups) (if b then Some group else None) → Tells groups group b told
+  pub growth_tells : (told : Option DeviceHistory) (groups : List (List Record)) (group : List Record) (b : Bool) → GrewBy (Some h) told gate (first ++ groups) (if b then Some group else None) → Tells groups group b told
   growth_tells told groups group true grew = record {
     begun = grew.1.begun;
     left = grew.1.last.1.left;
@@ -94,7 +94,7 @@ module _ (h : History) (gate : ℕ) (first : List (List Record)) where
       ∙ (ap (groups_ops gate) (sym (append_assoc first groups (group ∷ []))) ∙ ops_more gate (first ++ groups) group))
 
   -- What lies between such two tells so too.
-  pub tells_between : (groups : List (List Record)) (group : List Record) (a b : Bool) (old told new : Option History) → Tells groups group a old → Tells groups group b new → GrowsThrough old told new → Tells groups group b told
+  pub tells_between : (groups : List (List Record)) (group : List Record) (a b : Bool) (old told new : Option DeviceHistory) → Tells groups group a old → Tells groups group b new → GrowsThrough old told new → Tells groups group b told
   tells_between groups group a b old told new p q through =
       let at = between h (made_of groups p.begun) (made_of groups q.begun) told
       (subst (λ t. GrowsThrough t told (Some (with_ops h (made_of groups q.begun)))) p.is (subst (λ t. GrowsThrough old told t) q.is through)) in

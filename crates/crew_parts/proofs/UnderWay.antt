@@ -6,7 +6,7 @@ use Rattle.snap_base.proofs.Booleans.{or_only}
 use Rattle.aml_slice.specs.Controls.{Rest}
 use Rattle.crew_parts.specs.Acts.{EachGoes, Happens, meant}
 use Rattle.crew_parts.specs.Besides.{is_shut_there}
-use Rattle.crew_parts.specs.Crews.{Begins, HasCome, added, kept}
+use Rattle.crew_parts.specs.Crews.{AreFirstShares, HasCome, added, kept}
 use Rattle.crew_parts.specs.Devices.{is_shut, is_shut_at}
 use Rattle.crew_parts.specs.LawsOfRuns.{LawsOfRuns}
 use Rattle.crew_parts.specs.Shares.{ShareState}
@@ -35,7 +35,7 @@ still_under_way logs l es none = record { front = es; rest = []; splits = sym (a
 pub record Crew (w : Fixed Rest) : Type 0 where
   pub laws : LawsOfRuns w
   pub start : List ShareState
-  pub begun : Begins w start
+  pub begun : AreFirstShares w start
   pub join : (xs ys zs : List ShareState) (acts more : List Act) → Run (λ b. footprint w.text.logs (meant b)) (Happens w) xs acts ys → Run (λ b. footprint w.text.logs (meant b)) (Happens w) ys more zs
       → Run (λ b. footprint w.text.logs (meant b)) (Happens w) xs (acts ++ more) zs
   pub cut : (xs zs : List ShareState) (acts more : List Act) → Run (λ b. footprint w.text.logs (meant b)) (Happens w) xs (acts ++ more) zs

@@ -103,7 +103,7 @@ OutputGoes done e s (Some old) (Some new) = (old.failed ≡ false) × Prints don
 -- ---- the parts
 
 -- It makes the second of the first, which is part i.
-pub record Goes (w : Fixed Rest) (s : Machine Rest) (done : Bool) (e : Event) (i : ℕ) (old new : ShareState) : Type 0 where
+pub record ShareGoes (w : Fixed Rest) (s : Machine Rest) (done : Bool) (e : Event) (i : ℕ) (old new : ShareState) : Type 0 where
   pub part : IsPartOf w (behind w done e s) i new.part
   pub journal : (l : ℕ) → l < w.text.logs → i ≡ log l → JournalGoes l done e s old.beside.journal new.beside.journal
   pub output : i ≡ desk → OutputGoes done e s old.beside.output new.beside.output
@@ -113,7 +113,7 @@ abbrev pub EachGoes : Fixed Rest → Machine Rest → Bool → Event → List �
 EachGoes w s done e [] olds news = (olds ≡ []) × (news ≡ [])
 EachGoes w s done e (i ∷ is) [] news = ⊥
 EachGoes w s done e (i ∷ is) (x ∷ xs) [] = ⊥
-EachGoes w s done e (i ∷ is) (x ∷ xs) (y ∷ ys) = Goes w s done e i x y × EachGoes w s done e is xs ys
+EachGoes w s done e (i ∷ is) (x ∷ xs) (y ∷ ys) = ShareGoes w s done e i x y × EachGoes w s done e is xs ys
 
 -- they are the parts of this state with these numbers
 abbrev pub AreShown : Fixed Rest → Machine Rest → List ℕ → List ShareState → Type 0

@@ -47,7 +47,7 @@ has_failed_there None = false
 has_failed_there (Some o) = o.failed
 
 -- Beside a log, where there are so many, is a journal that takes appends; beside the desk an output that has not failed.
-pub record IsSound (logs i : ℕ) (b : BesideState) : Type 0 where
+pub record IsSoundBeside (logs i : ℕ) (b : BesideState) : Type 0 where
   pub journal : (l : ℕ) → l < logs → i ≡ log l → is_ready_journal b.journal ≡ true
   pub output : i ≡ desk → is_ready_output b.output ≡ true
 

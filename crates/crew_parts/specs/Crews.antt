@@ -37,7 +37,7 @@ pub record IsFresh (o : Option OutputState) : Type 0 where
   pub ready : output.failed ≡ false
 
 -- These are all parts that a run of the text begins with, the logs with open journals beside them, and the desk with the output.
-pub record Begins (w : Fixed Rest) (start : List ShareState) : Type 0 where
+pub record AreFirstShares (w : Fixed Rest) (start : List ShareState) : Type 0 where
   pub many : length start ≡ 4 + w.text.logs + length w.text.opening.states
   pub parts : (i : ℕ) (x : ShareState) → slice_get start i ≡ Some x → IsPartOf w (opening w) i x.part
   pub journals : (l : ℕ) (x : ShareState) → l < w.text.logs → slice_get start (log l) ≡ Some x → IsReady x.beside.journal

@@ -17,14 +17,14 @@ use Rattle.run_effects.specs.Groups.{group_behind, groups_of}
 use Rattle.run_effects.specs.Made.{IsMade}
 use Rattle.snap_hand.specs.Tables.{fixed_of}
 use Rattle.snap_hand.specs.declared.tables.Tables.{Tables}
-use Rattle.snap_outside.specs.Disk.{History, AddsAll, content, with_ops}
+use Rattle.snap_outside.specs.Disk.{DeviceHistory, AddsAll, content, with_ops}
 use Rattle.snap_outside.specs.declared.devices.DevOp.{DevOp}
 use Rattle.turn_table.specs.Rule.{HoldsOn, IsEntry, IsLater, Kept}
 use Rattle.snap_hand.specs.txn_records.declared.records.Record.{Record}
 
 -- ---- what shares tell of a log
 
-abbrev pub told_by : Option LogState → Option History
+abbrev pub told_by : Option LogState → Option DeviceHistory
 told_by None = None
 told_by (Some j) = j.told
 
@@ -33,7 +33,7 @@ journal_in None = None
 journal_in (Some x) = x.beside.journal
 
 -- what the device of log l tells, as its share shows it
-abbrev pub told_at : List ShareState → ℕ → Option History
+abbrev pub told_at : List ShareState → ℕ → Option DeviceHistory
 told_at xs l = told_by (journal_in (slice_get xs (log l)))
 
 abbrev pub is_shut : ShareState → Bool
@@ -46,7 +46,7 @@ is_shut_at xs l = holds is_shut (slice_get xs (log l))
 -- ---- what a device tells between two steps
 
 -- The device's history grew from the first to the second, and from there to the third.
-pub record GrowsThrough (before now after : Option History) : Type 0 where
+pub record GrowsThrough (before now after : Option DeviceHistory) : Type 0 where
   pub made : List DevOp
   pub left : List DevOp
   pub so_far : AddsAll before now made
@@ -69,7 +69,7 @@ pub record HoldsForAct (t : Tables) (start : List ShareState) (s u : CrewTable) 
 
 -- Log l's device tells what its share tells at the first step; or, while a worker holds the log, something between that and what the
 -- share tells once the worker's next act is recorded.
-abbrev pub MayTell : (t : Tables) (start : List ShareState) (s u : CrewTable) → Kept (touched t) (MayDo t) start s → ℕ → Option History → Type 0
+abbrev pub MayTell : (t : Tables) (start : List ShareState) (s u : CrewTable) → Kept (touched t) (MayDo t) start s → ℕ → Option DeviceHistory → Type 0
 MayTell t start s u now l told = (told ≡ told_at now.parts l) ⊎ ((h : HoldsForAct t start s u l) × GrowsThrough (told_at now.parts l) told (told_at h.after.parts l))
 
 -- ---- where it stands
@@ -85,9 +85,9 @@ begun_on w l first es xs = begun_groups (first ++ groups_of w l es) (if is_shut_
 
 -- The devices of all logs, as far as they told their histories as they were opened, stand at one moment of the run that is recorded at
 -- the second step, behind what is recorded at the first.
-pub record AreAtMoment (t : Tables) (start : List ShareState) (s u : CrewTable) (now : Kept (touched t) (MayDo t) start s) (end : Kept (touched t) (MayDo t) start u) (told : ℕ → Option History) : Type 0 where
+pub record AreAtMoment (t : Tables) (start : List ShareState) (s u : CrewTable) (now : Kept (touched t) (MayDo t) start s) (end : Kept (touched t) (MayDo t) start u) (told : ℕ → Option DeviceHistory) : Type 0 where
   pub moment : Moment (fixed_of t) (kept end.history)
   pub so_far : moment.events ≡ kept now.history
-  pub each : (l : ℕ) (x : ShareState) (j : LogState) (h : History) (gate : ℕ) (first : List (List Record)) → l < (fixed_of t).text.logs → slice_get start (log l) ≡ Some x → x.beside.journal ≡ Some j
+  pub each : (l : ℕ) (x : ShareState) (j : LogState) (h : DeviceHistory) (gate : ℕ) (first : List (List Record)) → l < (fixed_of t).text.logs → slice_get start (log l) ≡ Some x → x.beside.journal ≡ Some j
       → GrewBy (Some h) j.told gate first None → j.end ≡ end_behind_groups gate first
       → (made : List DevOp) × (told l ≡ Some (with_ops h made)) × StandsAt moment l (content h) gate first (begun_on (fixed_of t) l first (kept end.history) end.parts) made

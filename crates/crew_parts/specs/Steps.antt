@@ -23,7 +23,7 @@ CrewTable = State (Option ShareState) (View ShareState Act)
 -- The acts so far are a run of the machine, and the shares are what it came to. A share whose turn is free lies there as the run left it.
 -- Who holds a share got it as the run left it, and holds it alone: so until it is recorded what was made of it, nothing else
 -- touches it.
-pub record IsMoment (w : Fixed Rest) (start : List ShareState) (s : CrewTable) : Type 0 where
+pub record IsCrewMoment (w : Fixed Rest) (start : List ShareState) (s : CrewTable) : Type 0 where
   pub acts : List Act
   pub now : List ShareState
   pub come : HasCome w start (kept acts) now

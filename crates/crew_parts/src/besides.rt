@@ -1,6 +1,6 @@
 //! What stands beside a part of the machine.
 ghost use Rattle.std.specs.Prelude.{◌≡◌, None, Some, false, true, option_map};
-ghost use Rattle.crew_parts.specs.Besides.{HasAppended, HasWritten, IsSound, MayAppendTo, MayWriteTo, beside_log, beside_desk, beside_none, has_failed_there, is_ready_journal, is_ready_output, is_shut_there};
+ghost use Rattle.crew_parts.specs.Besides.{HasAppended, HasWritten, IsSoundBeside, MayAppendTo, MayWriteTo, beside_log, beside_desk, beside_none, has_failed_there, is_ready_journal, is_ready_output, is_shut_there};
 ghost use Rattle.crew_parts.specs.Shares.{output_seen};
 
 use core_events::{DESK, FIRST_LOG};
@@ -123,8 +123,8 @@ impl<D: LogDev, O: Sink> Beside<D, O> {
     /// Whether the part of this number, where there are so many logs, can go on with this beside it: a log with a journal that
     /// takes appends, the desk with an output that has not failed.
     pub fn is_sound(&self, part: usize, logs: u8) -> bool
-        ensures only { result ≡ true → IsSound logs part self.now }
-        ensures all { IsSound logs part self.now → result ≡ true }
+        ensures only { result ≡ true → IsSoundBeside logs part self.now }
+        ensures all { IsSoundBeside logs part self.now → result ≡ true }
     {
         if part == DESK {
             return self.has_output();

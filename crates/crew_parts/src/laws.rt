@@ -2,17 +2,17 @@
 ghost use Rattle.std.specs.Prelude.{◌≡◌, ◌+◌, ◌*◌, ◌<◌, ◌≤◌, Bool, true, List, Option, ℕ, length};
 ghost use Rattle.crew_parts.specs.Acts.{MayDo, touched};
 ghost use Rattle.snap_hand.specs.core_rows.OnRuns.{HasRun};
-ghost use Rattle.crew_parts.specs.Crews.{Begins, HasCome, Stands, kept};
+ghost use Rattle.crew_parts.specs.Crews.{AreFirstShares, HasCome, Stands, kept};
 ghost use Rattle.crew_parts.specs.Devices.{AreAtMoment, MayTell};
 ghost use Rattle.crew_parts.specs.LawsOfRuns.{LawsOfRuns};
 ghost use Rattle.crew_parts.specs.Shares.{ShareState};
 ghost use Rattle.crew_parts.specs.declared.acts.Act.{Act};
-ghost use Rattle.crew_parts.specs.Steps.{CrewTable, FindsMoment, HoldsForSync, IsMoment};
+ghost use Rattle.crew_parts.specs.Steps.{CrewTable, FindsMoment, HoldsForSync, IsCrewMoment};
 ghost use Rattle.snap_hand.specs.Tables.{AreTables, fixed_of, text_of};
 ghost use Rattle.protocol.specs.Events as machine;
 ghost use Rattle.protocol.specs.Runs.{IsRun, reached};
 ghost use Rattle.machine_laws.specs.protocol_theorems.Left.{most_events};
-ghost use Rattle.snap_outside.specs.Disk.{History};
+ghost use Rattle.snap_outside.specs.Disk.{DeviceHistory};
 ghost use Rattle.turn_table.specs.Places.{Ascending, IsIdle};
 ghost use Rattle.turn_table.specs.Rule.{IsLater, Kept};
 ghost use Rattle.turn_table.specs.Runs.{Fits, Run};
@@ -31,7 +31,7 @@ use turn_table::{histories_go_on, one_view_holds_it, runs_join, what_is_held_is_
 /// state these are all parts; the journals got the groups of its Syncs, and the output the lines of its replies.
 pub fn acts_are_runs(tables: &Tables)
     requires { AreTables tables.now }
-    ensures { (start : List ShareState) (acts : List Act) (now : List ShareState) → Begins (fixed_of tables.now) start → Run (touched tables.now) (MayDo tables.now) start acts now → HasCome (fixed_of tables.now) start (kept acts) now }
+    ensures { (start : List ShareState) (acts : List Act) (now : List ShareState) → AreFirstShares (fixed_of tables.now) start → Run (touched tables.now) (MayDo tables.now) start acts now → HasCome (fixed_of tables.now) start (kept acts) now }
 {
     laws_of_runs(tables);
 }
@@ -40,7 +40,7 @@ pub fn acts_are_runs(tables: &Tables)
 /// most.
 pub fn acts_are_few(tables: &Tables)
     requires { AreTables tables.now }
-    ensures { (start : List ShareState) (acts : List Act) (now : List ShareState) → Begins (fixed_of tables.now) start → Run (touched tables.now) (MayDo tables.now) start acts now → length acts ≤ most_events * length (text_of tables.now).txs + ((text_of tables.now).logs + 1) }
+    ensures { (start : List ShareState) (acts : List Act) (now : List ShareState) → AreFirstShares (fixed_of tables.now) start → Run (touched tables.now) (MayDo tables.now) start acts now → length acts ≤ most_events * length (text_of tables.now).txs + ((text_of tables.now).logs + 1) }
 {
     laws_of_runs(tables);
 }
@@ -48,7 +48,7 @@ pub fn acts_are_few(tables: &Tables)
 /// At each step of a crew's table a crash finds a moment of a run of the machine.
 pub fn steps_are_moments<D: LogDev + Drop, O: Sink + Drop>(tables: &Tables)
     requires { AreTables tables.now }
-    ensures { (start : List ShareState) (s : CrewTable) → Begins (fixed_of tables.now) start → Kept (touched tables.now) (MayDo tables.now) start s → IsMoment (fixed_of tables.now) start s }
+    ensures { (start : List ShareState) (s : CrewTable) → AreFirstShares (fixed_of tables.now) start → Kept (touched tables.now) (MayDo tables.now) start s → IsCrewMoment (fixed_of tables.now) start s }
 {
     acts_are_runs(tables);
     one_view_holds_it::<Share<D, O>>(tables);
@@ -58,7 +58,7 @@ pub fn steps_are_moments<D: LogDev + Drop, O: Sink + Drop>(tables: &Tables)
 /// with one more append begun on each log that is held for its next Sync.
 pub fn crashes_find_moments<D: LogDev + Drop, O: Sink + Drop>(tables: &Tables)
     requires { AreTables tables.now }
-    ensures { (start : List ShareState) (s u : CrewTable) (begun : ℕ → Bool) (now : Kept (touched tables.now) (MayDo tables.now) start s) (end : Kept (touched tables.now) (MayDo tables.now) start u) → Begins (fixed_of tables.now) start → IsLater s u →
+    ensures { (start : List ShareState) (s u : CrewTable) (begun : ℕ → Bool) (now : Kept (touched tables.now) (MayDo tables.now) start s) (end : Kept (touched tables.now) (MayDo tables.now) start u) → AreFirstShares (fixed_of tables.now) start → IsLater s u →
         ((l : ℕ) → begun l ≡ true → (l < (fixed_of tables.now).text.logs) × HoldsForSync tables.now start s u l) → FindsMoment tables.now start s u now end begun }
 {
     laws_of_runs(tables);
@@ -72,7 +72,7 @@ pub fn crashes_find_moments<D: LogDev + Drop, O: Sink + Drop>(tables: &Tables)
 /// of the append of what waits there; and nothing, where that act is not the log's Sync. Of a log that is shut it is what its fault left.
 pub fn devices_stand_at_moments<D: LogDev + Drop, O: Sink + Drop>(tables: &Tables)
     requires { AreTables tables.now }
-    ensures { (start : List ShareState) (s u : CrewTable) (told : ℕ → Option History) (now : Kept (touched tables.now) (MayDo tables.now) start s) (end : Kept (touched tables.now) (MayDo tables.now) start u) → Begins (fixed_of tables.now) start → IsLater s u →
+    ensures { (start : List ShareState) (s u : CrewTable) (told : ℕ → Option DeviceHistory) (now : Kept (touched tables.now) (MayDo tables.now) start s) (end : Kept (touched tables.now) (MayDo tables.now) start u) → AreFirstShares (fixed_of tables.now) start → IsLater s u →
         ((l : ℕ) → l < (fixed_of tables.now).text.logs → MayTell tables.now start s u now l (told l)) → AreAtMoment tables.now start s u now end told }
 {
     laws_of_runs(tables);
@@ -104,8 +104,8 @@ pub fn runs_lead(tables: &Tables)
 /// none at all, which is what a pass holds that holds nothing.
 pub fn passes_stand(tables: &Tables)
     requires { AreTables tables.now }
-    ensures knows { (start : List ShareState) (held : List (Option ShareState)) (entries : List (ℕ × Act)) → Begins (fixed_of tables.now) start → Fits (touched tables.now) (MayDo tables.now) start held entries → Stands (fixed_of tables.now) start held }
-    ensures idle { (start : List ShareState) (held : List (Option ShareState)) → Begins (fixed_of tables.now) start → IsIdle held → Stands (fixed_of tables.now) start held }
+    ensures knows { (start : List ShareState) (held : List (Option ShareState)) (entries : List (ℕ × Act)) → AreFirstShares (fixed_of tables.now) start → Fits (touched tables.now) (MayDo tables.now) start held entries → Stands (fixed_of tables.now) start held }
+    ensures idle { (start : List ShareState) (held : List (Option ShareState)) → AreFirstShares (fixed_of tables.now) start → IsIdle held → Stands (fixed_of tables.now) start held }
 {
     acts_are_runs(tables);
     runs_lead(tables);
@@ -114,7 +114,7 @@ pub fn passes_stand(tables: &Tables)
 /// No pass is ever full: it has fewer than `MOST_ENTRIES` entries, since acts are few.
 pub fn passes_have_room(tables: &Tables)
     requires { AreTables tables.now }
-    ensures { (start : List ShareState) (held : List (Option ShareState)) (entries : List (ℕ × Act)) → Begins (fixed_of tables.now) start → Fits (touched tables.now) (MayDo tables.now) start held entries → Ascending entries → length entries < MOST_ENTRIES }
+    ensures { (start : List ShareState) (held : List (Option ShareState)) (entries : List (ℕ × Act)) → AreFirstShares (fixed_of tables.now) start → Fits (touched tables.now) (MayDo tables.now) start held entries → Ascending entries → length entries < MOST_ENTRIES }
 {
     acts_are_few(tables);
 }

@@ -2,7 +2,7 @@
 ghost use Rattle.std.specs.Prelude.{◌≡◌, ◌+◌, ◌<◌, ◌≤◌, [], All, IfErr, IfOk, sum_by, vec_capacity, vec_len};
 ghost use Rattle.crew_grip.specs.Grips.{IsCrew};
 ghost use Rattle.crew_workers.specs.Workers.{IsBetweenRounds};
-ghost use Rattle.crew_parts.specs.Crews.{Begins, HasCome, kept};
+ghost use Rattle.crew_parts.specs.Crews.{AreFirstShares, HasCome, kept};
 ghost use Rattle.snap_hand.specs.Tables.{AreTables, fixed_of};
 ghost use Rattle.snap_work.specs.declared.limits.TheConstants.{MOST_WORKERS};
 ghost use Rattle.turn_table.specs.Words.{HoldsNothing, IsOf, opening_of, splits_of, tables_of};
@@ -161,7 +161,7 @@ pub fn run_crew<
     shares: Vec<Share<D, O>>,
 ) -> Result<Ending<D, O>, (Tables, Vec<Share<D, O>>, Memory)>
     requires tables { AreTables tables }
-    requires begins { Begins (fixed_of tables) shares.items }
+    requires begins { AreFirstShares (fixed_of tables) shares.items }
     requires count { hiring.now.workers ≤ MOST_WORKERS }
     ensures tables { IfOk result (λ end. end.tables ≡ tables) }
     // The events are a run, the journals got the groups of its Syncs, and the output the lines of its replies.

@@ -2,7 +2,7 @@
 use Rattle.std.proofs.Common.{◌≡◌, ℕ, ◌≤◌, List, [], ◌∷◌, length, Option, Some, None, refl, ap, inl, inr, arith}
 use Rattle.snap_outside.specs.declared.devices.DevOp.{DevOp}
 use Rattle.snap_outside.specs.declared.devices.DevOp.TheVariants.{Write, Sync}
-use Rattle.snap_outside.specs.Disk.{History, Disk, disk, content, overwritten, op_done, IsImage, EachMoment, AddsAll}
+use Rattle.snap_outside.specs.Disk.{DeviceHistory, Disk, disk, content, overwritten, op_done, IsImage, EachMoment, AddsAll}
 use Rattle.snap_outside.specs.Moments.{adds_nothing}
 use Rattle.gate_log.specs.declared.logs.LogItem.{LogItem}
 use Rattle.gate_log.specs.declared.opens.OpenNo.{OpenNo}
@@ -29,14 +29,14 @@ make_moments d short = (
   ),
 )
 
-untouched : (h : History) (new : Option History) → new ≡ Some h → length (content h) ≤ 9 → (ops : List DevOp) × AddsAll (Some h) new ops × EachMoment (disk h) ops (λ image. IsLog image [])
+untouched : (h : DeviceHistory) (new : Option DeviceHistory) → new ≡ Some h → length (content h) ≤ 9 → (ops : List DevOp) × AddsAll (Some h) new ops × EachMoment (disk h) ops (λ image. IsLog image [])
 untouched h new e short = ([], adds_nothing (Some h) new e, (λ image left. short_image (disk h) image short left))
 
-pub opened_safely : (old new : Option History) (end : ℕ) (found : List LogItem) → Opened old new end found → MadeSafely old new
+pub opened_safely : (old new : Option DeviceHistory) (end : ℕ) (found : List LogItem) → Opened old new end found → MadeSafely old new
 opened_safely None new end found opened = tt
 opened_safely (Some h) new end found opened = λ short. (Write 0 new_log ∷ Sync ∷ [], (opened.made short).2, make_moments (disk h) short)
 
-pub refused_safely : (old new : Option History) (why : OpenNo) → Refused old new why → MadeSafely old new
+pub refused_safely : (old new : Option DeviceHistory) (why : OpenNo) → Refused old new why → MadeSafely old new
 refused_safely None new why refused = tt
 refused_safely (Some h) new (NotALog offset) refused = λ short. untouched h new refused.0 short
 refused_safely (Some h) new (Damage offset) refused = λ short. untouched h new refused.0 short

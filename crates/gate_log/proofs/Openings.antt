@@ -4,7 +4,7 @@ use Rattle.std.specs.Prelude.{if◌then◌else◌}
 use Rattle.std.proofs.lemmas.Bool.{cases_lt, le-leb, lt-leb}
 use Rattle.snap_outside.specs.declared.devices.DevOp.{DevOp}
 use Rattle.snap_outside.specs.declared.devices.DevOp.TheVariants.{Write, Sync}
-use Rattle.snap_outside.specs.Disk.{History, Disk, disk, content, settled, with_ops, IsImage, EachMoment, AddsAll, AddsUpToFault}
+use Rattle.snap_outside.specs.Disk.{DeviceHistory, Disk, disk, content, settled, with_ops, IsImage, EachMoment, AddsAll, AddsUpToFault}
 use Rattle.snap_outside.specs.Moments.{adds_nothing, disk_join}
 use Rattle.snap_outside.proofs.Images.{image_is}
 use Rattle.gate_log.specs.declared.limits.TheConstants.{NEW_LOG_SIZE}
@@ -29,7 +29,7 @@ short_ops bytes short = sym (ap chosen (le-leb (length bytes) NEW_LOG_SIZE short
 pub long_ops : (bytes : List ℕ) → NEW_LOG_SIZE < length bytes → Sync ∷ [] ≡ opening_ops bytes
 long_ops bytes long = sym (ap chosen (lt-leb (length bytes) NEW_LOG_SIZE long))
 
-pub adds : (h : History) (new : Option History) (end : ℕ) (found : List LogItem) → Opened (Some h) new end found → AddsAll (Some h) new (opening_ops (content h))
+pub adds : (h : DeviceHistory) (new : Option DeviceHistory) (end : ℕ) (found : List LogItem) → Opened (Some h) new end found → AddsAll (Some h) new (opening_ops (content h))
 adds h new end found opened = elim (cases_lt NEW_LOG_SIZE (length (content h))) [
   | inl long ↦ subst (λ (ops : List DevOp). AddsAll (Some h) new ops) (long_ops (content h) long) (opened.read long).1
   | inr short ↦ subst (λ (ops : List DevOp). AddsAll (Some h) new ops) (short_ops (content h) short) (opened.made short).2
@@ -41,10 +41,10 @@ some_ops bytes = elim (cases_lt NEW_LOG_SIZE (length bytes)) [
   | inr short ↦ subst (λ (ops : List DevOp). ops ≢ []) (short_ops bytes short) (λ none. cc)
 ]
 
-untouched : (h : History) (new : Option History) → new ≡ Some h → AddsUpToFault (Some h) new (opening_ops (content h))
+untouched : (h : DeviceHistory) (new : Option DeviceHistory) → new ≡ Some h → AddsUpToFault (Some h) new (opening_ops (content h))
 untouched h new same = ([], record { left = opening_ops (content h); some = some_ops (content h); whole = refl }, adds_nothing (Some h) new same)
 
-pub refused : (h : History) (new : Option History) (why : OpenNo) → Refused (Some h) new why → AddsUpToFault (Some h) new (opening_ops (content h))
+pub refused : (h : DeviceHistory) (new : Option DeviceHistory) (why : OpenNo) → Refused (Some h) new why → AddsUpToFault (Some h) new (opening_ops (content h))
 refused h new (NotALog offset) told = untouched h new told.0
 refused h new (Damage offset) told = untouched h new told.0
 refused h new Device told = elim told [
@@ -53,10 +53,10 @@ refused h new Device told = elim told [
 ]
 refused h new Memory told = untouched h new told
 
-pub made_log : (h : History) → length (content h) ≤ NEW_LOG_SIZE → DeviceLog (with_ops h make) 8 []
+pub made_log : (h : DeviceHistory) → length (content h) ≤ NEW_LOG_SIZE → DeviceLog (with_ops h make) 8 []
 made_log h short = settled_log (with_ops h make) new_log 8 [] (disk_written_over h new_log short) new_is_log
 
-pub gives : (h : History) (new : Option History) (end : ℕ) (found : List LogItem) → Opened (Some h) new end found
+pub gives : (h : DeviceHistory) (new : Option DeviceHistory) (end : ℕ) (found : List LogItem) → Opened (Some h) new end found
     → DeviceLog (with_ops h (opening_ops (content h))) end (bytes_of found)
 gives h new end found opened = elim (cases_lt NEW_LOG_SIZE (length (content h))) [
   | inl long ↦
@@ -76,7 +76,7 @@ short_items bytes items short (inr log) = absurd (omega (arith, short, log.0))
 settled_keeps : (bytes : List ℕ) (items : List (List ℕ)) → IsLog bytes items → (image : List ℕ) → IsImage (settled bytes) image → IsLog image items
 settled_keeps bytes items log image left = subst (λ (l : List ℕ). IsLog l items) (sym (image_is bytes image left)) log
 
-pub keeps : (h : History) (items : List (List ℕ)) → disk h ≡ settled (content h) → IsLog (content h) items
+pub keeps : (h : DeviceHistory) (items : List (List ℕ)) → disk h ≡ settled (content h) → IsLog (content h) items
     → EachMoment (disk h) (opening_ops (content h)) (λ image. IsLog image items)
 keeps h items quiet log = elim (cases_lt NEW_LOG_SIZE (length (content h))) [
   | inl long ↦
@@ -91,10 +91,10 @@ keeps h items quiet log = elim (cases_lt NEW_LOG_SIZE (length (content h))) [
 
 -- ---- the format
 
-long_same : (h : History) → content (with_ops h (Sync ∷ [])) ≡ content h
+long_same : (h : DeviceHistory) → content (with_ops h (Sync ∷ [])) ≡ content h
 long_same h = ap (λ (d : Disk). d.now) (disk_join h.ops (Sync ∷ []) (settled h.first))
 
-pub keeps_format : (h : History) (new : Option History) (end : ℕ) (found : List LogItem) → Opened (Some h) new end found
+pub keeps_format : (h : DeviceHistory) (new : Option DeviceHistory) (end : ℕ) (found : List LogItem) → Opened (Some h) new end found
     → format_in (content (with_ops h (opening_ops (content h)))) ≡ format_in (content h)
 keeps_format h new end found opened = elim (cases_lt NEW_LOG_SIZE (length (content h))) [
   | inl long ↦ subst (λ (ops : List DevOp). format_in (content (with_ops h ops)) ≡ format_in (content h)) (long_ops (content h) long) (ap format_in (long_same h))

@@ -3,7 +3,7 @@ use Rattle.std.proofs.Common.{◌≡◌, ℕ, Bool, true, false, List, [], ◌�
 use Rattle.std.specs.Prelude.{nat_le, if◌then◌else◌}
 use Rattle.std.proofs.lemmas.List.{append-nil}
 use Rattle.snap_outside.specs.declared.devices.DevOp.{DevOp}
-use Rattle.snap_outside.specs.Disk.{History, Disk, settled, disk, disk_after, content, overwritten, EachMoment, with_ops}
+use Rattle.snap_outside.specs.Disk.{DeviceHistory, Disk, settled, disk, disk_after, content, overwritten, EachMoment, with_ops}
 use Rattle.snap_outside.specs.Moments.{disk_join}
 use Rattle.snap_outside.proofs.Images.{image_is}
 use Rattle.gate_log.specs.declared.limits.TheConstants.{NEW_LOG_SIZE}
@@ -45,7 +45,7 @@ second bytes e = either (nat_le (length bytes) NEW_LOG_SIZE) (marked_format byte
 marked_log : (bytes : List ℕ) (end : ℕ) (items : List (List ℕ)) (log : IsLogAt bytes end items) (x : ℕ) → IsLogAt (magic ++ x ∷ (blocks log.parts.0 ++ log.parts.1 ∷ log.parts.2)) end items
 marked_log bytes end items log x = let p = log.parts in record { mark = x; parts = (p.0, p.1, p.2, p.3, p.4, refl, p.6, p.7) }
 
-pub upgrade_gives : (h : History) (end : ℕ) (items : List (List ℕ)) → DeviceLog h end items
+pub upgrade_gives : (h : DeviceHistory) (end : ℕ) (items : List (List ℕ)) → DeviceLog h end items
     → DeviceLog (with_ops h upgrade_ops) end items × (marked_format (content (with_ops h upgrade_ops)) ≡ 2)
 upgrade_gives h end items log =
     let p = log.log.parts in
@@ -56,7 +56,7 @@ upgrade_gives h end items log =
       ap (λ (d : Disk). marked_format d.now) there,
     )
 
-pub upgrade_keeps : (h : History) (end : ℕ) (items : List (List ℕ)) → DeviceLog h end items → EachMoment (disk h) upgrade_ops (λ image. IsLog image items)
+pub upgrade_keeps : (h : DeviceHistory) (end : ℕ) (items : List (List ℕ)) → DeviceLog h end items → EachMoment (disk h) upgrade_ops (λ image. IsLog image items)
 upgrade_keeps h end items log =
     let p = log.log.parts in
     let tail : List ℕ = blocks p.0 ++ p.1 ∷ p.2 in
@@ -64,7 +64,7 @@ upgrade_keeps h end items log =
     (subst (λ (b : List ℕ). EachMoment (settled b) upgrade_ops (λ image. IsLog image items)) (sym p.5)
     (mark_moments log.log.mark tail (λ image. IsLog image items) (λ x. log_of (magic ++ x ∷ tail) end items (marked_log (content h) end items log.log x))))
 
-pub append_keeps_format : (h : History) (end : ℕ) (items added : List (List ℕ)) → MayAppend end added → DeviceLog h end items
+pub append_keeps_format : (h : DeviceHistory) (end : ℕ) (items added : List (List ℕ)) → MayAppend end added → DeviceLog h end items
     → marked_format (content (with_ops h (append_ops end added))) ≡ marked_format (content h)
 append_keeps_format h end items [] may log = ap (λ (ops : List DevOp). marked_format (content (record { first = h.first; ops = ops }))) (append-nil h.ops)
 append_keeps_format h end items (item ∷ more) may log =

@@ -2,7 +2,7 @@
 use Rattle.std.specs.Prelude.{◌≡◌, ℕ, ◌+◌, ◌==◌, if◌then◌else◌, List, [], ◌∷◌, ◌++◌, length, Option}
 use Rattle.snap_outside.specs.declared.devices.DevOp.{DevOp}
 use Rattle.snap_outside.specs.declared.devices.DevOp.TheVariants.{Write, Sync}
-use Rattle.snap_outside.specs.Disk.{History, AddsUpToFault}
+use Rattle.snap_outside.specs.Disk.{DeviceHistory, AddsUpToFault}
 use Rattle.gate_log.specs.Bytes.{MARK_2, format_in, items_bytes, group_bytes}
 use Rattle.gate_log.specs.declared.logs.AppendNo.{AppendNo}
 use Rattle.gate_log.specs.declared.logs.AppendNo.TheVariants.{Device, Shut, Memory}
@@ -34,7 +34,7 @@ abbrev pub upgrading_ops : List ℕ → List DevOp
 upgrading_ops bytes = if format_in bytes == 1 then upgrade_ops else []
 
 -- What an append, or an upgrade, of these operations that is refused did to the device.
-abbrev pub AddsRefused : Option History → Option History → List DevOp → AppendNo → Type 0
+abbrev pub AddsRefused : Option DeviceHistory → Option DeviceHistory → List DevOp → AppendNo → Type 0
 AddsRefused old new ops Device = AddsUpToFault old new ops
 AddsRefused old new ops Shut = new ≡ old
 AddsRefused old new ops Memory = new ≡ old

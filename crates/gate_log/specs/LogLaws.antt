@@ -1,7 +1,7 @@
 -- What holds of every log. A law of `src/laws.rt` says each of these, and a proof that rests on one takes it as a
 -- premise.
 use Rattle.std.specs.Prelude.{◌≡◌, ℕ, ◌⊎◌, List, ◌++◌, Option, Some}
-use Rattle.snap_outside.specs.Disk.{History, disk, content, settled, with_ops, AddsAll, AddsUpToFault, EachMoment}
+use Rattle.snap_outside.specs.Disk.{DeviceHistory, disk, content, settled, with_ops, AddsAll, AddsUpToFault, EachMoment}
 use Rattle.gate_log.specs.declared.logs.LogItem.{LogItem}
 use Rattle.gate_log.specs.declared.opens.OpenNo.{OpenNo}
 use Rattle.gate_log.specs.Appends.{append_ops, end_behind, upgrade_ops}
@@ -52,31 +52,31 @@ OneDifference = (bytes : List ℕ) (offset other : ℕ) → DiffersAt bytes offs
 -- a device that is opened gets opening's operations
 abbrev pub OpeningAdds : Type 0
 OpeningAdds =
-    (h : History) (new : Option History) (end : ℕ) (found : List LogItem) → Opened (Some h) new end found
+    (h : DeviceHistory) (new : Option DeviceHistory) (end : ℕ) (found : List LogItem) → Opened (Some h) new end found
     → AddsAll (Some h) new (opening_ops (content h))
 
 -- a device whose opening is refused gets a front of opening's operations
 abbrev pub RefusalAdds : Type 0
 RefusalAdds =
-    (h : History) (new : Option History) (why : OpenNo) → Refused (Some h) new why
+    (h : DeviceHistory) (new : Option DeviceHistory) (why : OpenNo) → Refused (Some h) new why
     → AddsUpToFault (Some h) new (opening_ops (content h))
 
 -- behind opening's operations the device holds the log that was found, or made
 abbrev pub OpeningGives : Type 0
 OpeningGives =
-    (h : History) (new : Option History) (end : ℕ) (found : List LogItem) → Opened (Some h) new end found
+    (h : DeviceHistory) (new : Option DeviceHistory) (end : ℕ) (found : List LogItem) → Opened (Some h) new end found
     → DeviceLog (with_ops h (opening_ops (content h))) end (bytes_of found)
 
 -- whatever a crash leaves while opening's operations are made has the items that were there
 abbrev pub OpeningKeeps : Type 0
 OpeningKeeps =
-    (h : History) (items : List (List ℕ)) → disk h ≡ settled (content h) → IsLog (content h) items
+    (h : DeviceHistory) (items : List (List ℕ)) → disk h ≡ settled (content h) → IsLog (content h) items
     → EachMoment (disk h) (opening_ops (content h)) (λ image. IsLog image items)
 
 -- opening's operations leave the format that the bytes stand for
 abbrev pub OpeningKeepsFormat : Type 0
 OpeningKeepsFormat =
-    (h : History) (new : Option History) (end : ℕ) (found : List LogItem) → Opened (Some h) new end found
+    (h : DeviceHistory) (new : Option DeviceHistory) (end : ℕ) (found : List LogItem) → Opened (Some h) new end found
     → format_in (content (with_ops h (opening_ops (content h)))) ≡ format_in (content h)
 
 -- ---- an append
@@ -84,19 +84,19 @@ OpeningKeepsFormat =
 -- behind an append's operations the device holds the log with the items added
 abbrev pub AppendGives : Type 0
 AppendGives =
-    (h : History) (end : ℕ) (items added : List (List ℕ)) → MayAppend end added → DeviceLog h end items
+    (h : DeviceHistory) (end : ℕ) (items added : List (List ℕ)) → MayAppend end added → DeviceLog h end items
     → DeviceLog (with_ops h (append_ops end added)) (end_behind end added) (items ++ added)
 
 -- whatever a crash leaves while an append's operations are made has the items from before, or these and all that are added
 abbrev pub AppendKeeps : Type 0
 AppendKeeps =
-    (h : History) (end : ℕ) (items added : List (List ℕ)) → MayAppend end added → DeviceLog h end items
+    (h : DeviceHistory) (end : ℕ) (items added : List (List ℕ)) → MayAppend end added → DeviceLog h end items
     → EachMoment (disk h) (append_ops end added) (λ image. IsLog image items ⊎ IsLog image (items ++ added))
 
 -- an append leaves the mark, and so the format
 abbrev pub AppendKeepsFormat : Type 0
 AppendKeepsFormat =
-    (h : History) (end : ℕ) (items added : List (List ℕ)) → MayAppend end added → DeviceLog h end items
+    (h : DeviceHistory) (end : ℕ) (items added : List (List ℕ)) → MayAppend end added → DeviceLog h end items
     → marked_format (content (with_ops h (append_ops end added))) ≡ marked_format (content h)
 
 -- ---- an upgrade
@@ -104,13 +104,13 @@ AppendKeepsFormat =
 -- behind an upgrade's operations the device holds the same log in format 2
 abbrev pub UpgradeGives : Type 0
 UpgradeGives =
-    (h : History) (end : ℕ) (items : List (List ℕ)) → DeviceLog h end items
+    (h : DeviceHistory) (end : ℕ) (items : List (List ℕ)) → DeviceLog h end items
     → DeviceLog (with_ops h upgrade_ops) end items × (marked_format (content (with_ops h upgrade_ops)) ≡ 2)
 
 -- whatever a crash leaves while an upgrade's operations are made has the items that were there
 abbrev pub UpgradeKeeps : Type 0
 UpgradeKeeps =
-    (h : History) (end : ℕ) (items : List (List ℕ)) → DeviceLog h end items
+    (h : DeviceHistory) (end : ℕ) (items : List (List ℕ)) → DeviceLog h end items
     → EachMoment (disk h) upgrade_ops (λ image. IsLog image items)
 
 -- bytes with a mark of format 2 are of format 2, however long they are
@@ -122,11 +122,11 @@ MarkedIsSecond = (bytes : List ℕ) → marked_format bytes ≡ 2 → format_in 
 -- behind the operations of a beginning the device holds the log that was found, or made
 abbrev pub BeginningGives : Type 0
 BeginningGives =
-    (h : History) (new : Option History) (end : ℕ) (found : List LogItem) → Opened (Some h) new end found
+    (h : DeviceHistory) (new : Option DeviceHistory) (end : ℕ) (found : List LogItem) → Opened (Some h) new end found
     → DeviceLog (with_ops h (beginning_ops (content h))) end (bytes_of found)
 
 -- whatever a crash leaves while a beginning's operations are made has the items that were there
 abbrev pub BeginningKeeps : Type 0
 BeginningKeeps =
-    (h : History) (items : List (List ℕ)) → disk h ≡ settled (content h) → IsLog (content h) items
+    (h : DeviceHistory) (items : List (List ℕ)) → disk h ≡ settled (content h) → IsLog (content h) items
     → EachMoment (disk h) (beginning_ops (content h)) (λ image. IsLog image items)

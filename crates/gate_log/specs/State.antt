@@ -1,12 +1,12 @@
 -- What contracts see of a log.
 use Rattle.std.specs.Prelude.{◌≡◌, ℕ, ◌<◌, Bool, true, false, List, [], Option, None, slice_index_or, length}
 use Rattle.gate_log.specs.declared.logs.LogItem.{LogItem}
-use Rattle.snap_outside.specs.Disk.{History}
+use Rattle.snap_outside.specs.Disk.{DeviceHistory}
 
 -- an open log
 pub record LogState : Type 0 where
   -- the device's history, where it tells it
-  pub told : Option History
+  pub told : Option DeviceHistory
   -- the offset of the closed gate
   pub end : ℕ
   -- 1 or 2

@@ -2,7 +2,7 @@
 use Rattle.std.proofs.Common.{◌≡◌, false, ℕ, ◌+◌, ◌<◌, ◌≤◌, inl, inr, List, [], ◌∷◌, ◌++◌, suc, length, set, take, drop, refl, sym, ◌∙◌, ap, subst, arith, Option, Some, None}
 use Rattle.std.proofs.lemmas.List.{append-nil, take-set, drop-set-lt, drop-drop}
 use Rattle.std.specs.List.{AllZip}
-use Rattle.snap_outside.specs.Disk.{History, content, IsImage}
+use Rattle.snap_outside.specs.Disk.{DeviceHistory, content, IsImage}
 use Rattle.gate_log.specs.declared.limits.TheConstants.{FARTHEST_END}
 use Rattle.gate_log.specs.declared.logs.LogItem.{LogItem}
 use Rattle.gate_log.specs.declared.opens.OpenNo.{OpenNo}
@@ -95,7 +95,7 @@ found_reached before mid found new are = record {
 
 -- ---- no record is lost
 
-keeps_same : (told : Option History) → KeepsRecords told told
+keeps_same : (told : Option DeviceHistory) → KeepsRecords told told
 keeps_same None = tt
 keeps_same (Some h) = (
   [],

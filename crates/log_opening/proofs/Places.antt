@@ -2,7 +2,7 @@
 use Rattle.std.proofs.Common.{◌≡◌, ℕ, ◌+◌, ◌-◌, ◌<◌, ◌≤◌, List, [], ◌∷◌, ◌++◌, suc, length, get_or, set, map, drop, append_assoc, refl, sym, ◌∙◌, ap, subst, arith, Option}
 use Rattle.std.specs.List.{insert, remove, AllZip}
 use Rattle.std.proofs.lemmas.List.{map-append, drop-drop}
-use Rattle.snap_outside.specs.Disk.{History}
+use Rattle.snap_outside.specs.Disk.{DeviceHistory}
 use Rattle.gate_log.specs.State.{LogState}
 use Rattle.log_opening.specs.Devices.{Device, devices_of, devices_now, device_at, as_device}
 
@@ -17,25 +17,25 @@ zip_behind R (a ∷ more) [] x y all one = absurd all
 zip_behind R (a ∷ more) (b ∷ bs) x y all one = (all.0, zip_behind R more bs x y all.1 one)
 
 -- the first device that is not open is behind those of the open logs
-pub now_at : {D : Type 0} (told : D → Option History) (faults : D → ℕ) (logs : List LogState) (xs : List D) (x : D) → 0 < length xs → x ≡ get_or xs 0 x
+pub now_at : {D : Type 0} (told : D → Option DeviceHistory) (faults : D → ℕ) (logs : List LogState) (xs : List D) (x : D) → 0 < length xs → x ≡ get_or xs 0 x
     → record { told = told x; faults = faults x } ≡ device_at (devices_now told faults logs xs) (length logs)
 now_at told faults [] [] x lt is = absurd (omega (arith, lt))
 now_at told faults [] (y ∷ ys) x lt is = ap (λ d. record { told = told d; faults = faults d }) is
 now_at told faults (l ∷ logs) xs x lt is = now_at told faults logs xs x lt is
 
-pub now_long : {D : Type 0} (told : D → Option History) (faults : D → ℕ) (logs : List LogState) (xs : List D) → 0 < length xs → length logs < length (devices_now told faults logs xs)
+pub now_long : {D : Type 0} (told : D → Option DeviceHistory) (faults : D → ℕ) (logs : List LogState) (xs : List D) → 0 < length xs → length logs < length (devices_now told faults logs xs)
 now_long told faults [] [] lt = absurd (omega (arith, lt))
 now_long told faults [] (y ∷ ys) lt = omega arith
 now_long told faults (l ∷ logs) xs lt = omega (arith, now_long told faults logs xs lt)
 
-now_set : {D : Type 0} (told : D → Option History) (faults : D → ℕ) (logs : List LogState) (xs : List D) (d : Device) → 0 < length xs
+now_set : {D : Type 0} (told : D → Option DeviceHistory) (faults : D → ℕ) (logs : List LogState) (xs : List D) (d : Device) → 0 < length xs
     → map as_device logs ++ d ∷ devices_of told faults (remove xs 0) ≡ set (devices_now told faults logs xs) (length logs) d
 now_set told faults [] [] d lt = absurd (omega (arith, lt))
 now_set told faults [] (y ∷ ys) d lt = refl
 now_set told faults (l ∷ logs) xs d lt = ap (λ (ds : List Device). as_device l ∷ ds) (now_set told faults logs xs d lt)
 
 -- the device has an open log now
-pub now_opened : {D : Type 0} (told : D → Option History) (faults : D → ℕ) (logs more : List LogState) (log : LogState) (xs ys : List D) → 0 < length xs
+pub now_opened : {D : Type 0} (told : D → Option DeviceHistory) (faults : D → ℕ) (logs more : List LogState) (log : LogState) (xs ys : List D) → 0 < length xs
     → ys ≡ remove xs 0 → more ≡ insert logs (length logs) log → devices_now told faults more ys ≡ set (devices_now told faults logs xs) (length logs) (as_device log)
 now_opened told faults logs more log xs ys lt taken put =
     let last : more ≡ logs ++ log ∷ [] = put ∙ insert_last logs log in
@@ -46,14 +46,14 @@ now_opened told faults logs more log xs ys lt taken put =
     ∙ now_set told faults logs xs (as_device log) lt
 
 -- the device was put back
-pub now_back : {D : Type 0} (told : D → Option History) (faults : D → ℕ) (logs : List LogState) (dev : D) (xs ys zs : List D) → 0 < length xs
+pub now_back : {D : Type 0} (told : D → Option DeviceHistory) (faults : D → ℕ) (logs : List LogState) (dev : D) (xs ys zs : List D) → 0 < length xs
     → ys ≡ remove xs 0 → zs ≡ insert ys 0 dev → devices_now told faults logs zs ≡ set (devices_now told faults logs xs) (length logs) (record { told = told dev; faults = faults dev })
 now_back told faults logs dev xs ys zs lt taken put =
     ap (λ (l : List _). devices_now told faults logs l) (put ∙ ap (λ (l : List _). dev ∷ l) taken)
     ∙ now_set told faults logs xs (record { told = told dev; faults = faults dev }) lt
 
 -- one of the devices comes back from its log
-pub now_closed : {D : Type 0} (told : D → Option History) (faults : D → ℕ) (logs fewer : List LogState) (log : LogState) (dev : D) (xs ys : List D) → logs ≡ fewer ++ log ∷ []
+pub now_closed : {D : Type 0} (told : D → Option DeviceHistory) (faults : D → ℕ) (logs fewer : List LogState) (log : LogState) (dev : D) (xs ys : List D) → logs ≡ fewer ++ log ∷ []
     → ys ≡ insert xs 0 dev → told dev ≡ log.told → faults dev ≡ log.faults → devices_now told faults fewer ys ≡ devices_now told faults logs xs
 now_closed told faults logs fewer log dev xs ys last put tells counts =
     let device : record { told = told dev; faults = faults dev } ≡ as_device log = λ i. record { told = tells i; faults = counts i } in

@@ -5,7 +5,7 @@ use Rattle.std.proofs.lemmas.Slice.Zip.{AllZip-long}
 use Rattle.std.specs.Prelude.{IfSome}
 use Rattle.std.specs.List.{AllZip, AllByRecursion}
 use Rattle.snap_base.specs.declared.transactions.State.{State}
-use Rattle.snap_outside.specs.Disk.{History, content}
+use Rattle.snap_outside.specs.Disk.{DeviceHistory, content}
 use Rattle.gate_log.specs.declared.logs.LogItem.{LogItem}
 use Rattle.gate_log.specs.Opened.{Opened}
 use Rattle.txn_records.specs.declared.records.Record.{Record}
@@ -62,7 +62,7 @@ said_range (ActDone t m c v a ∷ rs) are = said_range rs are.1
 
 -- ---- what the devices hold
 
-holds_told : OpenedHeld → (old new : Option History) (end : ℕ) (items : List LogItem) (rs : List Record) → Opened old new end items → AreItemsOf items rs → IfSome old (λ h. HoldsRecords (content h) rs)
+holds_told : OpenedHeld → (old new : Option DeviceHistory) (end : ℕ) (items : List LogItem) (rs : List Record) → Opened old new end items → AreItemsOf items rs → IfSome old (λ h. HoldsRecords (content h) rs)
 holds_told held None new end items rs opened are = tt
 holds_told held (Some h) new end items rs opened are = held h new end items rs opened are
 

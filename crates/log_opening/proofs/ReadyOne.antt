@@ -4,7 +4,7 @@ use Rattle.std.specs.Prelude.{IfSome, ◌⊎◌, ◌==◌, if◌then◌else◌}
 use Rattle.std.proofs.lemmas.Bool.{cases_lt}
 use Rattle.snap_outside.specs.Causes.{Rose}
 use Rattle.snap_outside.specs.declared.devices.DevOp.{DevOp}
-use Rattle.snap_outside.specs.Disk.{History, content, with_ops, AddsAll}
+use Rattle.snap_outside.specs.Disk.{DeviceHistory, content, with_ops, AddsAll}
 use Rattle.snap_outside.specs.Moments.{adds_nothing}
 use Rattle.gate_log.specs.declared.limits.TheConstants.{NEW_LOG_SIZE}
 use Rattle.gate_log.specs.declared.logs.LogItem.{LogItem}
@@ -39,32 +39,32 @@ chosen : ℕ → List DevOp
 chosen n = if n == 1 then upgrade_ops else []
 
 -- the format of what the device held is that of the log
-pub format_was : OpeningAdds → OpeningKeepsFormat → (told new : Option History) (end : ℕ) (items : List LogItem) (format : ℕ) → Opened told new end items → HasFormat new format
+pub format_was : OpeningAdds → OpeningKeepsFormat → (told new : Option DeviceHistory) (end : ℕ) (items : List LogItem) (format : ℕ) → Opened told new end items → HasFormat new format
     → IfSome told (λ h. format ≡ format_in (content h))
 format_was adds keeps None new end items format opened has = tt
 format_was adds keeps (Some h) new end items format opened has =
     let behind : new ≡ Some (with_ops h (opening_ops (content h))) = adds h new end items opened in
-    (subst (λ (t : Option History). HasFormat t format) behind has).1 ∙ keeps h new end items opened
+    (subst (λ (t : Option DeviceHistory). HasFormat t format) behind has).1 ∙ keeps h new end items opened
 
 -- a log of format 2 is not upgraded
-second_stays : (told : Option History) (format : ℕ) → IfSome told (λ h. format ≡ format_in (content h)) → format ≡ 2 → upgrading_of told ≡ []
+second_stays : (told : Option DeviceHistory) (format : ℕ) → IfSome told (λ h. format ≡ format_in (content h)) → format ≡ 2 → upgrading_of told ≡ []
 unfolding chosen
 second_stays None format was two = refl
 second_stays (Some h) format was two = let is : format_in (content h) ≡ 2 = sym was ∙ two in ap chosen is
 
 -- one of format 1 is
-first_upgrades : (told opened new : Option History) (end : ℕ) (items : List LogItem) (format : ℕ) → Opened told opened end items → IfSome told (λ h. format ≡ format_in (content h)) → format ≡ 1
+first_upgrades : (told opened new : Option DeviceHistory) (end : ℕ) (items : List LogItem) (format : ℕ) → Opened told opened end items → IfSome told (λ h. format ≡ format_in (content h)) → format ≡ 1
     → AddsAll opened new upgrade_ops → AddsAll opened new (upgrading_of told)
 unfolding chosen
 first_upgrades None opened new end items format is was one adds =
-    subst (λ (t : Option History). AddsAll t new []) (sym is) (subst (λ (t : Option History). AddsAll t new upgrade_ops) is adds)
+    subst (λ (t : Option DeviceHistory). AddsAll t new []) (sym is) (subst (λ (t : Option DeviceHistory). AddsAll t new upgrade_ops) is adds)
 first_upgrades (Some h) opened new end items format is was one adds =
     let here : format_in (content h) ≡ 1 = sym was ∙ one in
     subst (λ (ops : List DevOp). AddsAll opened new ops) (sym (ap chosen here)) adds
 
 -- ---- items
 
-opened_items : ReadyLaws → (h : History) (new : Option History) (end : ℕ) (items : List LogItem) → Opened (Some h) new end items → IsLog (content h) (bytes_of items)
+opened_items : ReadyLaws → (h : DeviceHistory) (new : Option DeviceHistory) (end : ℕ) (items : List LogItem) → Opened (Some h) new end items → IsLog (content h) (bytes_of items)
 opened_items laws h new end items opened = elim (cases_lt NEW_LOG_SIZE (length (content h))) [
   | inl long ↦ inr (long, (end, laws.placed (content h) end items (opened.read long).0))
   | inr short ↦ inl (short, ap (λ (l : List LogItem). bytes_of l) (opened.made short).1)
@@ -74,20 +74,20 @@ some_bytes : (items : List LogItem) → items ≢ [] → bytes_of items ≢ []
 some_bytes [] some none = some refl
 some_bytes (i ∷ items) some none = cc
 
-second_no_old : ReadyLaws → (told new : Option History) (end : ℕ) (items : List LogItem) (format : ℕ) (faults : ℕ) → Opened told new end items → HasFormat new format → format ≡ 2
+second_no_old : ReadyLaws → (told new : Option DeviceHistory) (end : ℕ) (items : List LogItem) (format : ℕ) (faults : ℕ) → Opened told new end items → HasFormat new format → format ≡ 2
     → HoldsNoOld (record { told = told; faults = faults })
 second_no_old laws None new end items format faults opened has two = tt
 second_no_old laws (Some h) new end items format faults opened has two = λ old.
     let was : format ≡ format_in (content h) = format_was laws.adds laws.format (Some h) new end items format opened has in
     omega (arith, was, two, old.1.1)
 
-empty_no_old : ReadyLaws → (told new : Option History) (end : ℕ) (items : List LogItem) (faults : ℕ) → Opened told new end items → items ≡ [] → HoldsNoOld (record { told = told; faults = faults })
+empty_no_old : ReadyLaws → (told new : Option DeviceHistory) (end : ℕ) (items : List LogItem) (faults : ℕ) → Opened told new end items → items ≡ [] → HoldsNoOld (record { told = told; faults = faults })
 empty_no_old laws None new end items faults opened none = tt
 empty_no_old laws (Some h) new end items faults opened none = λ old.
     let here : IsLog (content h) [] = subst (λ (l : List LogItem). IsLog (content h) (bytes_of l)) none (opened_items laws h new end items opened) in
     old.2 (laws.lists (content h) old.0 [] old.1.0 here)
 
-old_there : ReadyLaws → (told new : Option History) (end : ℕ) (items : List LogItem) (format : ℕ) (faults : ℕ) → Opened told new end items → HasFormat new format → format ≡ 1 → items ≢ []
+old_there : ReadyLaws → (told new : Option DeviceHistory) (end : ℕ) (items : List LogItem) (format : ℕ) (faults : ℕ) → Opened told new end items → HasFormat new format → format ≡ 1 → items ≢ []
     → HoldsOld (record { told = told; faults = faults })
 old_there laws None new end items format faults opened has one some = tt
 old_there laws (Some h) new end items format faults opened has one some =
@@ -104,7 +104,7 @@ module _ (laws : ReadyLaws) (b : Device) (l k : LogState) (items : List LogItem)
   is_first : l.format ≡ 1 → IfSome b.told (λ h. format_in (content h) ≡ 1)
   is_first one = by b.told was
     where
-      by : (told : Option History) → IfSome told (λ h. l.format ≡ format_in (content h)) → IfSome told (λ h. format_in (content h) ≡ 1)
+      by : (told : Option DeviceHistory) → IfSome told (λ h. l.format ≡ format_in (content h)) → IfSome told (λ h. format_in (content h) ≡ 1)
       by None is = tt
       by (Some h) is = sym is ∙ one
 
@@ -123,9 +123,9 @@ module _ (laws : ReadyLaws) (b : Device) (l k : LogState) (items : List LogItem)
   holds_now : IsUpgraded l k → IfSome k.told (λ g. DeviceLog g k.end (bytes_of items))
   holds_now up = subst (λ (n : ℕ). IfSome k.told (λ g. DeviceLog g n (bytes_of items))) (sym up.gate) (by l.told k.told up.adds up.upgraded.0 ready.holds)
     where
-      by : (old new : Option History) → AddsAll old new upgrade_ops → IfSome old (λ h. IfSome new (λ g. (xs : List (List ℕ)) → DeviceLog h l.end xs → DeviceLog g l.end xs))
+      by : (old new : Option DeviceHistory) → AddsAll old new upgrade_ops → IfSome old (λ h. IfSome new (λ g. (xs : List (List ℕ)) → DeviceLog h l.end xs → DeviceLog g l.end xs))
           → IfSome old (λ h. DeviceLog h l.end (bytes_of items)) → IfSome new (λ g. DeviceLog g l.end (bytes_of items))
-      by None new adds up log = subst (λ (t : Option History). IfSome t (λ g. DeviceLog g l.end (bytes_of items))) (sym adds) tt
+      by None new adds up log = subst (λ (t : Option DeviceHistory). IfSome t (λ g. DeviceLog g l.end (bytes_of items))) (sym adds) tt
       by (Some h) None adds up log = tt
       by (Some h) (Some g) adds up log = up (bytes_of items) log
 

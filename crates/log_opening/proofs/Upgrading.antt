@@ -4,7 +4,7 @@ use Rattle.std.specs.Prelude.{◌⊎◌, ◌==◌, false, IfSome, Option, Some, 
 use Rattle.std.specs.List.{AllByRecursion, AllZip}
 use Rattle.snap_base.proofs.Booleans.{three_ways}
 use Rattle.snap_outside.specs.Causes.{Rose}
-use Rattle.snap_outside.specs.Disk.{History, content}
+use Rattle.snap_outside.specs.Disk.{DeviceHistory, content}
 use Rattle.gate_log.specs.declared.logs.LogItem.{LogItem}
 use Rattle.gate_log.specs.Bytes.{format_in}
 use Rattle.gate_log.specs.LogLaws.{OpeningAdds, OpeningKeepsFormat}
@@ -73,7 +73,7 @@ counts_old adds keeps [] others (l ∷ logs) (f ∷ found) are ready = absurd ar
 counts_old adds keeps (b ∷ bs) others (l ∷ logs) (f ∷ found) are ready =
     (old_count logs, l.format == 1, counts_old adds keeps bs others logs found are.1 ready.1, refl, as_tests b.told (format_was adds keeps b.told l.told are.0.opened.0 f l.format are.0.opened.1 ready.0.formatted))
   where
-    as_tests : (told : Option History) → IfSome told (λ h. l.format ≡ format_in (content h)) → IfSome told (λ h. (l.format == 1) ≡ (format_in (content h) == 1))
+    as_tests : (told : Option DeviceHistory) → IfSome told (λ h. l.format ≡ format_in (content h)) → IfSome told (λ h. (l.format == 1) ≡ (format_in (content h) == 1))
     as_tests None is = tt
     as_tests (Some h) is = ap (λ (n : ℕ). n == 1) is
 

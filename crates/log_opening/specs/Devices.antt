@@ -2,7 +2,7 @@
 use Rattle.std.specs.Prelude.{◌≡◌, ◌≢◌, ℕ, ◌+◌, ◌<◌, ◌⊎◌, List, [], ◌∷◌, ◌++◌, map, take, drop, Option, None, IfSome, slice_index_or}
 use Rattle.std.specs.List.{AllByRecursion, AllZip}
 use Rattle.snap_outside.specs.declared.devices.DevOp.{DevOp}
-use Rattle.snap_outside.specs.Disk.{History, content, AddsAll, AddsUpToFault}
+use Rattle.snap_outside.specs.Disk.{DeviceHistory, content, AddsAll, AddsUpToFault}
 use Rattle.gate_log.specs.Appends.{upgrade_ops}
 use Rattle.gate_log.specs.Bytes.{IsLogOf, format_in}
 use Rattle.gate_log.specs.Opened.{Opened, MayBeMade, Refused}
@@ -13,11 +13,11 @@ use Rattle.record_log.specs.Growth.{upgrading_of}
 
 -- a device: its history, where it tells it, and its faults
 pub record Device : Type 0 where
-  pub told : Option History
+  pub told : Option DeviceHistory
   pub faults : ℕ
 
 -- objects as devices, by what they tell and count
-abbrev pub devices_of : {D : Type 0} → (D → Option History) → (D → ℕ) → List D → List Device
+abbrev pub devices_of : {D : Type 0} → (D → Option DeviceHistory) → (D → ℕ) → List D → List Device
 devices_of told faults ds = map (λ d. record { told = told d; faults = faults d }) ds
 
 -- an open log as a device
@@ -25,7 +25,7 @@ abbrev pub as_device : LogState → Device
 as_device log = record { told = log.told; faults = log.faults }
 
 -- all devices, where those of these logs are open and the others are not
-abbrev pub devices_now : {D : Type 0} → (D → Option History) → (D → ℕ) → List LogState → List D → List Device
+abbrev pub devices_now : {D : Type 0} → (D → Option DeviceHistory) → (D → ℕ) → List LogState → List D → List Device
 devices_now told faults logs others = map as_device logs ++ devices_of told faults others
 
 -- the device with this number, from 0 on; past the last one a device that tells nothing
@@ -33,7 +33,7 @@ abbrev pub device_at : List Device → ℕ → Device
 device_at devices log = slice_index_or devices log (record { told = None; faults = 0 })
 
 -- only opening's operations were made
-abbrev pub OnlyOpened : Option History → Option History → Type 0
+abbrev pub OnlyOpened : Option DeviceHistory → Option DeviceHistory → Type 0
 OnlyOpened old new = (end : ℕ) × (found : List LogItem) × Opened old new end found
 
 -- A device got no call, or those of opening, as far as it did not fail.
@@ -80,8 +80,8 @@ abbrev pub HoldNoOld : ℕ → List Device → Type 0
 HoldNoOld count before = AllByRecursion HoldsNoOld (take count before)
 
 -- A device was opened, and its log made one of format 2, where it was of format 1.
-abbrev pub DeviceBegun : Option History → Option History → ℕ → List LogItem → Type 0
-DeviceBegun old new end found = (opened : Option History) × Opened old opened end found × AddsAll opened new (upgrading_of old)
+abbrev pub DeviceBegun : Option DeviceHistory → Option DeviceHistory → ℕ → List LogItem → Type 0
+DeviceBegun old new end found = (opened : Option DeviceHistory) × Opened old opened end found × AddsAll opened new (upgrading_of old)
 
 -- A device was opened, and its log made one of format 2, where it was of format 1; at some end, with some items.
 abbrev pub IsBegun : Device → Device → Type 0
@@ -93,13 +93,13 @@ pub record AreBegun (count : ℕ) (before after : List Device) : Type 0 where
   pub others : drop count after ≡ drop count before
 
 -- what makes a log of format 1 one of format 2, where it has no item; and nothing where it has some
-abbrev pub preparing_of : Option History → List LogItem → List DevOp
+abbrev pub preparing_of : Option DeviceHistory → List LogItem → List DevOp
 preparing_of old [] = upgrading_of old
 preparing_of old (item ∷ found) = []
 
 -- A device was opened, and its log made one of format 2, where it was of format 1 and had no item.
-abbrev pub DevicePrepared : Option History → Option History → ℕ → List LogItem → Type 0
-DevicePrepared old new end found = (opened : Option History) × Opened old opened end found × AddsAll opened new (preparing_of old found)
+abbrev pub DevicePrepared : Option DeviceHistory → Option DeviceHistory → ℕ → List LogItem → Type 0
+DevicePrepared old new end found = (opened : Option DeviceHistory) × Opened old opened end found × AddsAll opened new (preparing_of old found)
 
 abbrev pub IsDevicePrepared : Device → Device → Type 0
 IsDevicePrepared before after = (end : ℕ) × (found : List LogItem) × DevicePrepared before.told after.told end found
@@ -107,7 +107,7 @@ IsDevicePrepared before after = (end : ℕ) × (found : List LogItem) × DeviceP
 -- A device was opened, its log was of format 1 and had no item, and the upgrade met a fault.
 abbrev pub IsUpgradeCutOff : Device → Device → Type 0
 IsUpgradeCutOff before after =
-    (end : ℕ) × (opened : Option History) × Opened before.told opened end [] × IfSome before.told (λ h. format_in (content h) ≡ 1)
+    (end : ℕ) × (opened : Option DeviceHistory) × Opened before.told opened end [] × IfSome before.told (λ h. format_in (content h) ≡ 1)
     × AddsUpToFault opened after.told upgrade_ops
 
 -- A device got no call, or those of opening and then of an upgrade, as far as it did not fail.

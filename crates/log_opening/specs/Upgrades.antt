@@ -2,7 +2,7 @@
 use Rattle.std.specs.Prelude.{◌≡◌, ◌≢◌, ℕ, ◌+◌, ◌==◌, ◌<◌, ◌≤◌, ◌⊎◌, if◌then◌else◌, Bool, false, Option, IfSome, List, [], ◌∷◌, length, take, drop, slice_index_or}
 use Rattle.std.specs.List.{AllZip}
 use Rattle.snap_outside.specs.Causes.{Rose}
-use Rattle.snap_outside.specs.Disk.{History, content, AddsAll, AddsUpToFault}
+use Rattle.snap_outside.specs.Disk.{DeviceHistory, content, AddsAll, AddsUpToFault}
 use Rattle.gate_log.specs.declared.logs.LogItem.{LogItem}
 use Rattle.gate_log.specs.Appends.{upgrade_ops}
 use Rattle.gate_log.specs.Bytes.{format_in}
@@ -99,7 +99,7 @@ AreOld (d ∷ devices) count =
 -- The device was opened, its log was of format 1, and the upgrade met a fault.
 abbrev pub IsBeginningCutOff : Device → Device → Type 0
 IsBeginningCutOff before after =
-    (end : ℕ) × (found : List LogItem) × (opened : Option History) × Opened before.told opened end found
+    (end : ℕ) × (found : List LogItem) × (opened : Option DeviceHistory) × Opened before.told opened end found
     × IfSome before.told (λ h. format_in (content h) ≡ 1)
     × AddsUpToFault opened after.told upgrade_ops
 

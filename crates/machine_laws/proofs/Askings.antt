@@ -4,7 +4,7 @@ use Rattle.std.proofs.lemmas.Bool.{eqb-true, eq-eqb, or_cases, or_left, or_right
 use Rattle.std.proofs.lemmas.Bool.Decides.{nat_tests}
 use Rattle.std.proofs.lemmas.List.Folds.{Any-from_list_any, list_any_at}
 use Rattle.snap_base.specs.declared.ids.ActorId.{ActorId}
-use Rattle.aml_slice.specs.Controls.{Frame, Rest, StandsOn, IsLeft, HasLeft, RestsOn}
+use Rattle.aml_slice.specs.Controls.{Frame, Rest, StandsOn, IsCallLeft, HasLeft, RestsOn}
 use Rattle.protocol.specs.Words.{is_among}
 use Rattle.machine_laws.specs.MethodCode.{is_stood_on, is_left, rests_on}
 
@@ -30,11 +30,11 @@ some_told u a h =
 some_tells : (u : ActorId × ℕ) (a : ℕ) → u.0.0 ≡ a → 1 ≤ u.1 → ((u.0.0 == a) && nat_le 1 u.1) ≡ true
 some_tells u a here some = let test : nat_le 1 u.1 ≡ true = grind (arith, nat_tests) in and_from (u.0.0 == a) (nat_le 1 u.1) (eq-eqb u.0.0 a here) test
 
-uses_told : (uses : List (ActorId × ℕ)) (a : ℕ) → is_left (Some uses) a ≡ true → IsLeft uses a
+uses_told : (uses : List (ActorId × ℕ)) (a : ℕ) → is_left (Some uses) a ≡ true → IsCallLeft uses a
 uses_told [] a h = absurd cc
 uses_told (u ∷ us) a h = elim (or_cases ((u.0.0 == a) && nat_le 1 u.1) (is_left (Some us) a) h) [ inl here ↦ inl (some_told u a here) | inr more ↦ inr (uses_told us a more) ]
 
-uses_tell : (uses : List (ActorId × ℕ)) (a : ℕ) → IsLeft uses a → is_left (Some uses) a ≡ true
+uses_tell : (uses : List (ActorId × ℕ)) (a : ℕ) → IsCallLeft uses a → is_left (Some uses) a ≡ true
 uses_tell [] a h = absurd h
 uses_tell (u ∷ us) a (inl here) = or_left ((u.0.0 == a) && nat_le 1 u.1) (is_left (Some us) a) (some_tells u a here.0 here.1)
 uses_tell (u ∷ us) a (inr more) = or_right ((u.0.0 == a) && nat_le 1 u.1) (is_left (Some us) a) (uses_tell us a more)

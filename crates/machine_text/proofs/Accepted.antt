@@ -9,7 +9,7 @@ use Rattle.snap_base.specs.declared.transactions.Kind.TheVariants.{Pact, Act}
 use Rattle.snap_base.specs.declared.transactions.Tx.{Tx}
 use Rattle.aml_check.specs.Transactions as asked
 use Rattle.aml_tree.specs.Tree.{CheckedMethod}
-use Rattle.protocol.specs.Fixed.{is_pact_kind, IsTxOf, IsUse, HasFewUses, IsText}
+use Rattle.protocol.specs.Fixed.{is_pact_kind, IsTxOf, IsUseInRange, HasFewUses, IsText}
 use Rattle.machine_text.specs.Texts.{text_of, IsAccepted, MayBegin}
 use Rattle.snap_recover.specs.declared.openings.Opening.{Opening}
 use Rattle.snap_work.specs.Kept.{KeepsLimits}
@@ -24,7 +24,7 @@ uses_below : (actors : ℕ) (us : Uses) → AllByRecursion (asked.IsUse actors) 
 uses_below actors [] all = tt
 uses_below actors (u ∷ us) all = (all.0.actor, uses_below actors us all.1)
 
-uses_called : (actors : ℕ) (us : Uses) → AllByRecursion (asked.IsUse actors) us → AllByRecursion IsUse us
+uses_called : (actors : ℕ) (us : Uses) → AllByRecursion (asked.IsUse actors) us → AllByRecursion IsUseInRange us
 uses_called actors [] all = tt
 uses_called actors (u ∷ us) all = (all.0.calls, uses_called actors us all.1)
 
@@ -46,7 +46,7 @@ few_of : (actors root : ℕ) (k : Kind) (us : Uses) → asked.Declares actors ro
 few_of actors root Pact us d = d.few
 few_of actors root Act us d = rw d (omega arith)
 
-called_of : (actors root : ℕ) (k : Kind) (us : Uses) → asked.Declares actors root k us → AllByRecursion IsUse us
+called_of : (actors root : ℕ) (k : Kind) (us : Uses) → asked.Declares actors root k us → AllByRecursion IsUseInRange us
 called_of actors root Pact us d = uses_called actors us d.each
 called_of actors root Act us d = rw d tt
 

@@ -142,12 +142,12 @@ greatest_number = 2 ^ 62
 abbrev pub greatest_first : ℕ
 greatest_first = greatest_number - 2 ^ 20
 
-abbrev pub IsUse : ActorId × ℕ → Type 0
-IsUse u = (1 ≤ u.1) × (u.1 ≤ most_calls)
+abbrev pub IsUseInRange : ActorId × ℕ → Type 0
+IsUseInRange u = (1 ≤ u.1) × (u.1 ≤ most_calls)
 
 pub record HasFewUses (tx : Tx) : Type 0 where
   pub few : length tx.uses ≤ most_uses
-  pub calls : AllByRecursion IsUse tx.uses
+  pub calls : AllByRecursion IsUseInRange tx.uses
 
 -- an accepted text, and an opening for it
 pub record IsText (w : Text) : Type 0 where

@@ -72,8 +72,8 @@ abbrev pub RecoversAt : ℕ → State → List Who → List Done → List Ran �
 RecoversAt a first kept committed long os =
     (P : Who → Bool) → FrontIn P (λ y. is_on y long) kept → last_one first (filter (λ o. P o.who && is_kept o.who kept) os) ≡ last_state a first (filter (λ d. P d.who && writes d) committed)
 
-unfoldable pub Recovers : {C : Type 0} → Fixed C → Machine C → History → Type 0
-Recovers w s h = (a : ℕ) → RecoversAt a (slice_index_or w.text.opening.states a no_state) h.kept h.committed (h.long a) (told_states a (log_at s (a % w.text.logs)).records)
+unfoldable pub RecoversEachActor : {C : Type 0} → Fixed C → Machine C → History → Type 0
+RecoversEachActor w s h = (a : ℕ) → RecoversAt a (slice_index_or w.text.opening.states a no_state) h.kept h.committed (h.long a) (told_states a (log_at s (a % w.text.logs)).records)
 
 -- ---- the records of readers
 

@@ -21,7 +21,7 @@ use Rattle.protocol_theorems.specs.Sets.{least_in, StandsBehind}
 -- ---- whose a transaction is
 
 -- transaction n is this ACT
-pub record IsAct {C : Type 0} (n t : ℕ) (x : Act) (s : Machine C) : Type 0 where
+pub record IsActOfTransaction {C : Type 0} (n t : ℕ) (x : Act) (s : Machine C) : Type 0 where
   pub found : act_of t s.book.acts ≡ Some x
   pub tx : x.tx ≡ n
 
@@ -40,7 +40,7 @@ pub record IsLeast (n : ℕ) (ns : List ℕ) : Type 0 where
 pub record Dies {C : Type 0} (n a older own : ℕ) (e : Event) (s : Machine C) : Type 0 where
   pub act : Act
   pub event : e ≡ Ask own a
-  pub is_act : IsAct n own act s
+  pub is_act : IsActOfTransaction n own act s
   pub least : IsLeast older (map (λ x. x.tid) (rivals_in_tail (lock_of own s.book.acts) (cell_at s a).entries))
   pub is_older : older < own
 
@@ -56,7 +56,7 @@ pub record Crosses {C : Type 0} (w : Fixed C) (n m k a : ℕ) (e : Event) (s : M
   pub act : Act
   pub next : Act
   pub event : PlacesOn a e s
-  pub is_act : IsAct n tid act s
+  pub is_act : IsActOfTransaction n tid act s
   pub live : is_live_status act.status ≡ true
   pub found : act_of tid (after w e s).book.acts ≡ Some next
   pub before_is : next.m ≡ m
@@ -85,7 +85,7 @@ pub record TakesAct {C : Type 0} (n k by : ℕ) (e : Event) (s : Machine C) : Ty
   pub act : Act
   pub code : ℕ
   pub failing : Fails by k s.book.next_c code e s
-  pub is_act : IsAct n tid act s
+  pub is_act : IsActOfTransaction n tid act s
   pub live : is_live_status act.status ≡ true
   pub reached : k ≤ act.m
 
@@ -106,7 +106,7 @@ pub record FailsAlone {C : Type 0} (n : ℕ) (p : Place) (code : ℕ) (e : Event
   pub tid : ℕ
   pub act : Act
   pub event : e ≡ Decide tid
-  pub is_act : IsAct n tid act s
+  pub is_act : IsActOfTransaction n tid act s
   pub live : is_live_status act.status ≡ true
   pub result : act.result ≡ Some (Fail code)
   pub place : act_place act.m s.book.next_c ≡ p
@@ -116,7 +116,7 @@ pub record SealsAct {C : Type 0} (n : ℕ) (p : Place) (v : ℤ) (e : Event) (s 
   pub act : Act
   pub c : ℕ
   pub event : e ≡ Seal tid
-  pub is_act : IsAct n tid act s
+  pub is_act : IsActOfTransaction n tid act s
   pub decided : act.status ≡ Decided c
   pub result : act.result ≡ Some (Value v)
   pub place : act_place act.m c ≡ p
@@ -202,4 +202,4 @@ pub record VerdictsStand {C : Type 0} (w : Fixed C) (finish : C → List State �
   -- who is given up for its two numbers stood between these two batches, as its sets have them
   pub between : (n m k a : ℕ) → verdict n (reached w es).book (reached w es).desk ≡ Some (verdicts.Order (record { 0 = m }) (record { 0 = k }) (record { 0 = a })) → StandsBetween w n m k a es
   pub of_pacts : (n k : ℕ) (b : Batch) (p : Pact) (v : Verdict) → IsPact n k b p (reached w es) → verdict n (reached w es).book (reached w es).desk ≡ Some v → IsOfPact v
-  pub of_acts : (n t : ℕ) (x : Act) (v : Verdict) → IsAct n t x (reached w es) → verdict n (reached w es).book (reached w es).desk ≡ Some v → IsOfAct v
+  pub of_acts : (n t : ℕ) (x : Act) (v : Verdict) → IsActOfTransaction n t x (reached w es) → verdict n (reached w es).book (reached w es).desk ≡ Some v → IsOfAct v

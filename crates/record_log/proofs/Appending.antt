@@ -2,7 +2,7 @@
 use Rattle.std.proofs.Common.{◌≡◌, ◌≢◌, ℕ, ◌+◌, ◌⊎◌, ap, length, inl, inr, List, [], ◌∷◌, ◌++◌, refl, sym, ◌∙◌, subst, Option, Some, None, Result, Ok, Err}
 use Rattle.std.specs.Prelude.{OnOk, MatchResult}
 use Rattle.std.specs.List.{AllByRecursion}
-use Rattle.snap_outside.specs.Disk.{History, Disk, disk, content, IsImage, AddsAll}
+use Rattle.snap_outside.specs.Disk.{DeviceHistory, Disk, disk, content, IsImage, AddsAll}
 use Rattle.gate_log.specs.declared.logs.AppendNo.{AppendNo}
 use Rattle.gate_log.specs.Appends.{append_ops, end_behind, AddsRefused}
 use Rattle.gate_log.specs.Bytes.{IsLog, items_bytes}
@@ -17,14 +17,14 @@ use Rattle.record_log.proofs.Spelling.{all_more, spelled_more}
 
 -- ---- what is there in the end
 
-grown : (g : History) (end : ℕ) (rs added : List Record) → AllByRecursion IsRecord rs → AllByRecursion IsRecord added
+grown : (g : DeviceHistory) (end : ℕ) (rs added : List Record) → AllByRecursion IsRecord rs → AllByRecursion IsRecord added
     → DeviceLog g end (spelled rs ++ spelled added) → RecordLog g end (rs ++ added)
 grown g end rs added rs_are added_are log = record {
   log = subst (λ (items : List (List ℕ)). DeviceLog g end items) (spelled_more rs added) log;
   each = all_more rs added rs_are added_are;
 }
 
-appends : (old new : Option History) (before after : ℕ) (added : List Record) → AllByRecursion IsRecord added
+appends : (old new : Option DeviceHistory) (before after : ℕ) (added : List Record) → AllByRecursion IsRecord added
     → Appended old new before after (spelled added) → AppendsRecords old new before after added
 appends None new before after added are done = tt
 appends (Some h) None before after added are done = tt
@@ -42,7 +42,7 @@ either_holds image rs added rs_are added_are either = elim either [
   | inr log ↦ inr (record { log = subst (λ (items : List (List ℕ)). IsLog image items) (spelled_more rs added) log; each = all_more rs added rs_are added_are })
 ]
 
-pub crashes : (old new : Option History) (end : ℕ) (added : List Record) → AllByRecursion IsRecord added
+pub crashes : (old new : Option DeviceHistory) (end : ℕ) (added : List Record) → AllByRecursion IsRecord added
     → Crashes old new end (spelled added) → CrashesRecords old new end added
 crashes None new end added are left = tt
 crashes (Some h) new end added are left = (
@@ -53,7 +53,7 @@ crashes (Some h) new end added are left = (
 )
 
 -- where no call of the device was made
-pub no_crash_of_records : (log_at : LogAtIsLog) (images : ImagesOfSettled) (old : Option History) (end : ℕ) (added : List Record) → CrashesRecords old old end added
+pub no_crash_of_records : (log_at : LogAtIsLog) (images : ImagesOfSettled) (old : Option DeviceHistory) (end : ℕ) (added : List Record) → CrashesRecords old old end added
 no_crash_of_records log_at images None end added = tt
 no_crash_of_records log_at images (Some h) end added = (
   [],
@@ -63,12 +63,12 @@ no_crash_of_records log_at images (Some h) end added = (
 
 -- ---- where the items are told by an equation
 
-pub appends_at : {T E : Type 0} (r : Result T E) (old new : Option History) (before after : ℕ) (added : List Record) (items : List (List ℕ))
+pub appends_at : {T E : Type 0} (r : Result T E) (old new : Option DeviceHistory) (before after : ℕ) (added : List Record) (items : List (List ℕ))
     → AllByRecursion IsRecord added → items ≡ spelled added → OnOk r (Appended old new before after items) → OnOk r (AppendsRecords old new before after added)
 appends_at (Ok x) old new before after added items are same done = appends old new before after added are (subst (λ (l : List (List ℕ)). Appended old new before after l) same done)
 appends_at (Err e) old new before after added items are same done = tt
 
-pub crashes_at : (old new : Option History) (end : ℕ) (added : List Record) (items : List (List ℕ))
+pub crashes_at : (old new : Option DeviceHistory) (end : ℕ) (added : List Record) (items : List (List ℕ))
     → AllByRecursion IsRecord added → items ≡ spelled added → Crashes old new end items → CrashesRecords old new end added
 crashes_at old new end added items are same left = crashes old new end added are (subst (λ (l : List (List ℕ)). Crashes old new end l) same left)
 
@@ -81,7 +81,7 @@ some_spelled rs items same some = λ none. some (none_spelled rs (sym same ∙ n
 
 -- ---- the operations, and where the gate stands behind them
 
-pub ops_at : (r : Result (Unit {0}) AppendNo) (old new : Option History) (end : ℕ) (added : List Record) (items : List (List ℕ)) → items ≡ spelled added
+pub ops_at : (r : Result (Unit {0}) AppendNo) (old new : Option DeviceHistory) (end : ℕ) (added : List Record) (items : List (List ℕ)) → items ≡ spelled added
     → MatchResult r (λ _. AddsAll old new (append_ops end items)) (AddsRefused old new (append_ops end items))
     → MatchResult r (λ _. AddsAll old new (append_ops end (spelled added))) (AddsRefused old new (append_ops end (spelled added)))
 ops_at r old new end added items same ops =

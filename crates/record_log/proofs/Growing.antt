@@ -1,7 +1,7 @@
 -- How the appends of groups grow a device's history.
 use Rattle.std.proofs.Common.{◌≡◌, ℕ, List, [], ◌∷◌, ◌++◌, Option, None, Some, refl, sym, ap, subst, ◌∙◌, append_assoc, append-nil}
 use Rattle.snap_outside.specs.declared.devices.DevOp.{DevOp}
-use Rattle.snap_outside.specs.Disk.{History, content, AddsAll, AddsUpToFault}
+use Rattle.snap_outside.specs.Disk.{DeviceHistory, content, AddsAll, AddsUpToFault}
 use Rattle.snap_outside.specs.Moments.{adds_join}
 use Rattle.gate_log.specs.declared.logs.LogItem.{LogItem}
 use Rattle.gate_log.specs.Appends.{append_ops, end_behind, upgrading_ops}
@@ -33,9 +33,9 @@ may_more end (first ∷ groups) group may one = (may.0, may_more (end_behind end
 
 -- ---- the history
 
-pub opening_grows : (law : OpeningAdds) (old opened new : Option History) (end : ℕ) (found : List LogItem) → Opened old opened end found → AddsAll opened new (upgrading_of old)
+pub opening_grows : (law : OpeningAdds) (old opened new : Option DeviceHistory) (end : ℕ) (found : List LogItem) → Opened old opened end found → AddsAll opened new (upgrading_of old)
     → GrewBy old new end [] None
-opening_grows law None opened new end found is upgraded = subst (λ (t : Option History). AddsAll t new []) is upgraded
+opening_grows law None opened new end found is upgraded = subst (λ (t : Option DeviceHistory). AddsAll t new []) is upgraded
 opening_grows law (Some h) opened new end found is upgraded = (
   beginning_ops (content h),
   record { may = tt; begun = []; last = refl; parts = sym (append-nil (beginning_ops (content h))) },
@@ -48,11 +48,11 @@ longer ops opening groups begun more parts none =
     ap (λ (l : List DevOp). l ++ more) (parts ∙ ap (λ (b : List DevOp). opening ++ (groups ++ b)) none ∙ ap (λ (l : List DevOp). opening ++ l) (append-nil groups))
     ∙ append_assoc opening groups more
 
-pub group_grows : (old between new : Option History) (end : ℕ) (groups : List (List Record)) (group : List Record)
+pub group_grows : (old between new : Option DeviceHistory) (end : ℕ) (groups : List (List Record)) (group : List Record)
     → GrewBy old between end groups None → MayAppendGroup (end_behind_groups end groups) group
     → AddsAll between new (append_ops (end_behind_groups end groups) (spelled group)) → GrewBy old new end (groups ++ group ∷ []) None
 group_grows None between new end groups group grew may adds =
-    subst (λ (t : Option History). AddsAll t new (append_ops (end_behind_groups end groups) (spelled group))) grew adds
+    subst (λ (t : Option DeviceHistory). AddsAll t new (append_ops (end_behind_groups end groups) (spelled group))) grew adds
 group_grows (Some h) between new end groups group grew may adds =
     let more = append_ops (end_behind_groups end groups) (spelled group) in
     let opening = beginning_ops (content h) in (
@@ -67,10 +67,10 @@ group_grows (Some h) between new end groups group grew may adds =
       adds_join (Some h) between new grew.0 more grew.2 adds,
     )
 
-pub fault_grows : (old between new : Option History) (end : ℕ) (groups : List (List Record)) (group : List Record)
+pub fault_grows : (old between new : Option DeviceHistory) (end : ℕ) (groups : List (List Record)) (group : List Record)
     → GrewBy old between end groups None → MayAppendGroup (end_behind_groups end groups) group
     → AddsUpToFault between new (append_ops (end_behind_groups end groups) (spelled group)) → GrewBy old new end groups (Some group)
-fault_grows None between new end groups group grew may adds = subst (λ (t : Option History). AddsAll t new adds.0) grew adds.2
+fault_grows None between new end groups group grew may adds = subst (λ (t : Option DeviceHistory). AddsAll t new adds.0) grew adds.2
 fault_grows (Some h) between new end groups group grew may adds = (
   grew.0 ++ adds.0,
   record {

@@ -3,7 +3,7 @@ use Rattle.std.proofs.Common.{◌≡◌, ℕ, ◌<◌, ◌≤◌, inl, inr, List
 use Rattle.std.proofs.lemmas.Bool.{cases_lt}
 use Rattle.snap_outside.specs.declared.devices.DevOp.{DevOp}
 use Rattle.snap_outside.specs.declared.devices.DevOp.TheVariants.{Sync}
-use Rattle.snap_outside.specs.Disk.{History, Disk, disk, content, settled, op_done, IsImage, EachMoment, AddsAll}
+use Rattle.snap_outside.specs.Disk.{DeviceHistory, Disk, disk, content, settled, op_done, IsImage, EachMoment, AddsAll}
 use Rattle.gate_log.specs.declared.logs.LogItem.{LogItem}
 use Rattle.gate_log.specs.declared.opens.OpenNo.{OpenNo}
 use Rattle.gate_log.specs.declared.opens.OpenNo.TheVariants.{NotALog, Damage, Device, Memory}
@@ -21,7 +21,7 @@ use Rattle.record_log.proofs.Spelling.{one_spelling, items_spelled, items_each, 
 pub one_list_held : (lists : OneList) (records : OneRecord) (bytes : List ℕ) (rs xs : List Record) → HoldsRecords bytes rs → HoldsRecords bytes xs → rs ≡ xs
 one_list_held lists records bytes rs xs one other = one_spelling records rs xs one.each other.each (lists bytes (spelled rs) (spelled xs) one.log other.log)
 
-pub log_holds : (law : LogAtIsLog) (h : History) (end : ℕ) (rs : List Record) → RecordLog h end rs → HoldsRecords (content h) rs
+pub log_holds : (law : LogAtIsLog) (h : DeviceHistory) (end : ℕ) (rs : List Record) → RecordLog h end rs → HoldsRecords (content h) rs
 log_holds law h end rs log = record { log = law (content h) end (spelled rs) log.log.log; each = log.each }
 
 -- ---- what they are not
@@ -39,25 +39,25 @@ never_damaged law bytes rs offset long held = λ damaged. let log = log_of_long 
 -- ---- opened
 
 module _ (placed : PlacedIsLogAt) where
-  pub opened_log : (h : History) (new : Option History) (end : ℕ) (items : List LogItem) → Opened (Some h) new end items → IsLog (content h) (bytes_of items)
+  pub opened_log : (h : DeviceHistory) (new : Option DeviceHistory) (end : ℕ) (items : List LogItem) → Opened (Some h) new end items → IsLog (content h) (bytes_of items)
   opened_log h new end items opened = elim (cases_lt NEW_LOG_SIZE (length (content h))) [
     | inl long ↦ inr (long, (end, placed (content h) end items (opened.read long).0))
     | inr short ↦ inl (short, ap (λ (l : List LogItem). bytes_of l) (opened.made short).1)
   ]
 
-  pub held_before : (h : History) (new : Option History) (end : ℕ) (items : List LogItem) (rs : List Record)
+  pub held_before : (h : DeviceHistory) (new : Option DeviceHistory) (end : ℕ) (items : List LogItem) (rs : List Record)
       → Opened (Some h) new end items → AreItemsOf items rs → HoldsRecords (content h) rs
   held_before h new end items rs opened are = record {
     log = subst (λ (l : List (List ℕ)). IsLog (content h) l) (items_spelled items rs are) (opened_log h new end items opened);
     each = items_each items rs are;
   }
 
-  pub never_bad_in : (lists : OneList) (h : History) (new : Option History) (end offset : ℕ) (items : List LogItem) (rs : List Record)
+  pub never_bad_in : (lists : OneList) (h : DeviceHistory) (new : Option DeviceHistory) (end offset : ℕ) (items : List LogItem) (rs : List Record)
       → Opened (Some h) new end items → HoldsRecords (content h) rs → ¬ IsFirstBadIn items offset
   never_bad_in lists h new end offset items rs opened held =
       λ first. none_bad items rs offset held.each (lists (content h) (bytes_of items) (spelled rs) (opened_log h new end items opened) held.log) first
 
-pub held_after : (g : History) (end : ℕ) (items : List LogItem) (rs : List Record) → DeviceLog g end (bytes_of items) → AreItemsOf items rs → RecordLog g end rs
+pub held_after : (g : DeviceHistory) (end : ℕ) (items : List LogItem) (rs : List Record) → DeviceLog g end (bytes_of items) → AreItemsOf items rs → RecordLog g end rs
 held_after g end items rs log are = record {
   log = subst (λ (l : List (List ℕ)). DeviceLog g end l) (items_spelled items rs are) log;
   each = items_each items rs are;
@@ -88,13 +88,13 @@ held_images rs none d (op ∷ ops) all = (
   held_images rs none (op_done op d) ops all.1,
 )
 
-made_keeps : (h : History) (new : Option History) → length (content h) ≤ NEW_LOG_SIZE → MadeSafely (Some h) new → KeepsRecords (Some h) new
+made_keeps : (h : DeviceHistory) (new : Option DeviceHistory) → length (content h) ≤ NEW_LOG_SIZE → MadeSafely (Some h) new → KeepsRecords (Some h) new
 made_keeps h new short made =
     let safely = made short in
     (safely.0, safely.1, (λ quiet rs held. held_images rs (short_holds_none (content h) rs short held.log) (disk h) safely.0 safely.2))
 
 module _ (images : ImagesOfSettled) where
-  synced_keeps : (h : History) (new : Option History) → AddsAll (Some h) new (Sync ∷ []) → KeepsRecords (Some h) new
+  synced_keeps : (h : DeviceHistory) (new : Option DeviceHistory) → AddsAll (Some h) new (Sync ∷ []) → KeepsRecords (Some h) new
   synced_keeps h new adds = (
     Sync ∷ [],
     adds,
@@ -104,21 +104,21 @@ module _ (images : ImagesOfSettled) where
     )),
   )
 
-  untouched_keeps : (h : History) (new : Option History) → new ≡ Some h → KeepsRecords (Some h) new
+  untouched_keeps : (h : DeviceHistory) (new : Option DeviceHistory) → new ≡ Some h → KeepsRecords (Some h) new
   untouched_keeps h new same = (
     [],
     adds_nothing (Some h) new same,
     (λ quiet rs held image left. settled_image images (content h) rs held image (subst (λ (d : Disk). IsImage d image) quiet left)),
   )
 
-  pub opened_keeps : (old new : Option History) (end : ℕ) (items : List LogItem) → Opened old new end items → MadeSafely old new → KeepsRecords old new
+  pub opened_keeps : (old new : Option DeviceHistory) (end : ℕ) (items : List LogItem) → Opened old new end items → MadeSafely old new → KeepsRecords old new
   opened_keeps None new end items opened made = tt
   opened_keeps (Some h) new end items opened made = elim (cases_lt NEW_LOG_SIZE (length (content h))) [
     | inl long ↦ synced_keeps h new (opened.read long).1
     | inr short ↦ made_keeps h new short made
   ]
 
-  pub refused_keeps : (old new : Option History) (why : OpenNo) → Refused old new why → MadeSafely old new → KeepsRecords old new
+  pub refused_keeps : (old new : Option DeviceHistory) (why : OpenNo) → Refused old new why → MadeSafely old new → KeepsRecords old new
   refused_keeps None new why refused made = tt
   refused_keeps (Some h) new (NotALog offset) refused made = untouched_keeps h new refused.0
   refused_keeps (Some h) new (Damage offset) refused made = untouched_keeps h new refused.0

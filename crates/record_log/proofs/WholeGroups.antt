@@ -1,7 +1,7 @@
 -- A log to which groups were appended, and what a crash leaves of it at each moment.
 use Rattle.std.proofs.Common.{◌≡◌, ◌≢◌, ℕ, ◌⊎◌, inl, inr, List, [], ◌∷◌, ◌++◌, Option, None, Some, refl, sym, ap, subst, ◌∙◌, append_assoc, append-nil}
 use Rattle.snap_outside.specs.declared.devices.DevOp.{DevOp}
-use Rattle.snap_outside.specs.Disk.{History, Disk, disk, disk_after, content, settled, with_ops, IsImage, EachMoment}
+use Rattle.snap_outside.specs.Disk.{DeviceHistory, Disk, disk, disk_after, content, settled, with_ops, IsImage, EachMoment}
 use Rattle.snap_outside.specs.Moments.{disk_join, moment_between}
 use Rattle.gate_log.specs.declared.logs.LogItem.{LogItem}
 use Rattle.gate_log.specs.Appends.{append_ops, end_behind}
@@ -31,10 +31,10 @@ split_front (x ∷ xs) ys (u ∷ us) vs same =
       | inr behind ↦ inr (behind.0, ap (λ (op : DevOp). op ∷ xs) first ∙ ap (λ (l : List DevOp). u ∷ l) behind.1, behind.2)
     ]
 
-disk_with : (h : History) (ops : List DevOp) → disk (with_ops h ops) ≡ disk_after ops (disk h)
+disk_with : (h : DeviceHistory) (ops : List DevOp) → disk (with_ops h ops) ≡ disk_after ops (disk h)
 disk_with h ops = disk_join h.ops ops (settled h.first)
 
-disk_behind : (h : History) (made first more : List DevOp) → made ≡ first ++ more → disk_after made (disk h) ≡ disk_after more (disk (with_ops h first))
+disk_behind : (h : DeviceHistory) (made first more : List DevOp) → made ≡ first ++ more → disk_after made (disk h) ≡ disk_after more (disk (with_ops h first))
 disk_behind h made first more same =
     ap (λ (l : List DevOp). disk_after l (disk h)) same ∙ disk_join first more (disk h) ∙ ap (λ (d : Disk). disk_after more d) (sym (disk_with h first))
 
@@ -45,12 +45,12 @@ may_split end (group ∷ whole) later may =
     ((may.0, rest.0), rest.1)
 
 module _ (gives : AppendGives) (keeps : AppendKeeps) (log_at : LogAtIsLog) (images : ImagesOfSettled) where
-  quiet_holds : (h : History) (end : ℕ) (rs : List Record) → RecordLog h end rs → (image : List ℕ) → IsImage (disk h) image → HoldsRecords image rs
+  quiet_holds : (h : DeviceHistory) (end : ℕ) (rs : List Record) → RecordLog h end rs → (image : List ℕ) → IsImage (disk h) image → HoldsRecords image rs
   quiet_holds h end rs log image left =
       settled_image images (content h) rs (log_holds log_at h end rs log) image (subst (λ (d : Disk). IsImage d image) log.log.quiet left)
 
   -- behind one append
-  grown : (h : History) (end : ℕ) (rs group : List Record) → MayAppendGroup end group → RecordLog h end rs
+  grown : (h : DeviceHistory) (end : ℕ) (rs group : List Record) → MayAppendGroup end group → RecordLog h end rs
       → RecordLog (with_ops h (append_ops end (spelled group))) (end_behind end (spelled group)) (rs ++ group)
   grown h end rs group may log = record {
     log = subst (λ (items : List (List ℕ)). DeviceLog (with_ops h (append_ops end (spelled group))) (end_behind end (spelled group)) items) (spelled_more rs group)
@@ -59,7 +59,7 @@ module _ (gives : AppendGives) (keeps : AppendKeeps) (log_at : LogAtIsLog) (imag
   }
 
   -- while one is made
-  under_way : (h : History) (end : ℕ) (rs group : List Record) (made left : List DevOp) → MayAppendGroup end group → RecordLog h end rs
+  under_way : (h : DeviceHistory) (end : ℕ) (rs group : List Record) (made left : List DevOp) → MayAppendGroup end group → RecordLog h end rs
       → append_ops end (spelled group) ≡ made ++ left → (image : List ℕ) → IsImage (disk_after made (disk h)) image
       → HoldsRecords image rs ⊎ ((made ≢ []) × HoldsRecords image (rs ++ group))
   under_way h end rs group [] left may log front image is = inl (quiet_holds h end rs log image is)
@@ -71,13 +71,13 @@ module _ (gives : AppendGives) (keeps : AppendKeeps) (log_at : LogAtIsLog) (imag
         | inr held ↦ inr ((λ none. cc), held)
       ]
 
-  next_leaves : (h : History) (end : ℕ) (rs : List Record) (later : List (List Record)) (begun : List DevOp) → MayAppendGroups end later → RecordLog h end rs
+  next_leaves : (h : DeviceHistory) (end : ℕ) (rs : List Record) (later : List (List Record)) (begun : List DevOp) → MayAppendGroups end later → RecordLog h end rs
       → IsNextBegun end later begun → (image : List ℕ) → IsImage (disk_after begun (disk h)) image → HoldsWhole rs later begun image
   next_leaves h end rs [] begun may log next image is =
       inl (quiet_holds h end rs log image (subst (λ (made : List DevOp). IsImage (disk_after made (disk h)) image) next is))
   next_leaves h end rs (group ∷ groups) begun may log next image is = under_way h end rs group begun next.0 may.0 log next.1 image is
 
-  groups_leave : (h : History) (end : ℕ) (rs : List Record) (groups : List (List Record)) (made left : List DevOp) → MayAppendGroups end groups → RecordLog h end rs
+  groups_leave : (h : DeviceHistory) (end : ℕ) (rs : List Record) (groups : List (List Record)) (made left : List DevOp) → MayAppendGroups end groups → RecordLog h end rs
       → made ++ left ≡ groups_ops end groups → (image : List ℕ) → IsImage (disk_after made (disk h)) image → LeavesGroups end rs groups made image
   groups_leave h end rs [] [] left may log front image is = record {
     whole = [];
@@ -116,7 +116,7 @@ module _ (gives : AppendGives) (keeps : AppendKeeps) (log_at : LogAtIsLog) (imag
             }
       ]
 
-  groups_give : (h : History) (end : ℕ) (rs : List Record) (groups : List (List Record)) → MayAppendGroups end groups → RecordLog h end rs
+  groups_give : (h : DeviceHistory) (end : ℕ) (rs : List Record) (groups : List (List Record)) → MayAppendGroups end groups → RecordLog h end rs
       → RecordLog (with_ops h (groups_ops end groups)) (end_behind_groups end groups) (rs ++ all_records groups)
   groups_give h end rs [] may log =
       subst (λ (l : List Record). RecordLog (with_ops h []) end l) (sym (append-nil rs))
@@ -131,7 +131,7 @@ module _ (gives : AppendGives) (keeps : AppendKeeps) (log_at : LogAtIsLog) (imag
       (groups_give (with_ops h first) behind (rs ++ group) groups may.1 (grown h end rs group may.0 log)))
 
   -- at a moment that is named by what is whole and what is begun
-  whole_leave : (h : History) (end : ℕ) (rs : List Record) (whole later : List (List Record)) (begun : List DevOp) → MayAppendGroups end (whole ++ later) → RecordLog h end rs
+  whole_leave : (h : DeviceHistory) (end : ℕ) (rs : List Record) (whole later : List (List Record)) (begun : List DevOp) → MayAppendGroups end (whole ++ later) → RecordLog h end rs
       → IsNextBegun (end_behind_groups end whole) later begun → (image : List ℕ) → IsImage (disk_after (groups_ops end whole ++ begun) (disk h)) image
       → HoldsWhole (rs ++ all_records whole) later begun image
   whole_leave h end rs whole later begun may log next image is =
@@ -141,7 +141,7 @@ module _ (gives : AppendGives) (keeps : AppendKeeps) (log_at : LogAtIsLog) (imag
       (subst (λ (d : Disk). IsImage d image) (disk_behind h (appends ++ begun) appends begun refl) is)
 
   module _ (placed : PlacedIsLogAt) (lists : OneList) (beginning_gives : BeginningGives) (beginning_keeps : BeginningKeeps) where
-    opened_gives : (h : History) (opened : Option History) (end : ℕ) (found : List LogItem) (rs : List Record) → Opened (Some h) opened end found → HoldsRecords (content h) rs
+    opened_gives : (h : DeviceHistory) (opened : Option DeviceHistory) (end : ℕ) (found : List LogItem) (rs : List Record) → Opened (Some h) opened end found → HoldsRecords (content h) rs
         → RecordLog (with_ops h (beginning_ops (content h))) end rs
     opened_gives h opened end found rs is held = record {
       log = subst (λ (items : List (List ℕ)). DeviceLog (with_ops h (beginning_ops (content h))) end items)
@@ -149,7 +149,7 @@ module _ (gives : AppendGives) (keeps : AppendKeeps) (log_at : LogAtIsLog) (imag
       each = held.each;
     }
 
-    pub growth_gives : (h : History) (opened : Option History) (end : ℕ) (found : List LogItem) (rs : List Record) (groups : List (List Record)) (ops : List DevOp)
+    pub growth_gives : (h : DeviceHistory) (opened : Option DeviceHistory) (end : ℕ) (found : List LogItem) (rs : List Record) (groups : List (List Record)) (ops : List DevOp)
         → Opened (Some h) opened end found → HoldsRecords (content h) rs → IsGrowth (content h) end groups None ops
         → RecordLog (with_ops h ops) (end_behind_groups end groups) (rs ++ all_records groups)
     growth_gives h opened end found rs groups ops is held growth =
@@ -161,7 +161,7 @@ module _ (gives : AppendGives) (keeps : AppendKeeps) (log_at : LogAtIsLog) (imag
         subst (λ (l : List DevOp). RecordLog (record { first = h.first; ops = l }) (end_behind_groups end groups) (rs ++ all_records groups)) same
         (groups_give (with_ops h beginning) end rs groups growth.may (opened_gives h opened end found rs is held))
 
-    pub moment_keeps : (h : History) (opened : Option History) (end : ℕ) (found : List LogItem) (rs : List Record) (whole later : List (List Record)) (begun : List DevOp)
+    pub moment_keeps : (h : DeviceHistory) (opened : Option DeviceHistory) (end : ℕ) (found : List LogItem) (rs : List Record) (whole later : List (List Record)) (begun : List DevOp)
         → Opened (Some h) opened end found → HoldsRecords (content h) rs → MayAppendGroups end (whole ++ later) → IsNextBegun (end_behind_groups end whole) later begun
         → (image : List ℕ) → IsImage (disk_after (beginning_ops (content h) ++ (groups_ops end whole ++ begun)) (disk h)) image
         → HoldsWhole (rs ++ all_records whole) later begun image
@@ -172,14 +172,14 @@ module _ (gives : AppendGives) (keeps : AppendKeeps) (log_at : LogAtIsLog) (imag
         (subst (λ (d : Disk). IsImage d image) (disk_behind h (beginning ++ more) beginning more refl) is)
 
     -- while the log is opened and upgraded
-    beginning_leaves : (h : History) (rs : List Record) (made left : List DevOp) → disk h ≡ settled (content h) → HoldsRecords (content h) rs
+    beginning_leaves : (h : DeviceHistory) (rs : List Record) (made left : List DevOp) → disk h ≡ settled (content h) → HoldsRecords (content h) rs
         → beginning_ops (content h) ≡ made ++ left → (image : List ℕ) → IsImage (disk_after made (disk h)) image → HoldsRecords image rs
     beginning_leaves h rs made left quiet held front image is =
         let P : List ℕ → Type 0 = λ bytes. IsLog bytes (spelled rs) in
         let all = subst (λ (ops : List DevOp). EachMoment (disk h) ops P) front (beginning_keeps h (spelled rs) quiet held.log) in
         record { log = moment_between (disk h) made left P all image is; each = held.each }
 
-    pub growth_keeps : (h : History) (opened : Option History) (end : ℕ) (found : List LogItem) (rs : List Record) (groups : List (List Record)) (tried : Option (List Record)) (ops : List DevOp)
+    pub growth_keeps : (h : DeviceHistory) (opened : Option DeviceHistory) (end : ℕ) (found : List LogItem) (rs : List Record) (groups : List (List Record)) (tried : Option (List Record)) (ops : List DevOp)
         → Opened (Some h) opened end found → disk h ≡ settled (content h) → HoldsRecords (content h) rs → IsGrowth (content h) end groups tried ops
         → (made left : List DevOp) → ops ≡ made ++ left → (image : List ℕ) → IsImage (disk_after made (disk h)) image
         → Leaves (content h) end rs (begun_groups groups tried) made image

@@ -2,7 +2,7 @@
 use Rattle.std.specs.Prelude.{◌≡◌, ◌≢◌, ℕ, ◌⊎◌, List, [], ◌∷◌, ◌++◌, Option, None, Some, ⊤}
 use Rattle.std.specs.List.{AllByRecursion, flat_map}
 use Rattle.snap_outside.specs.declared.devices.DevOp.{DevOp}
-use Rattle.snap_outside.specs.Disk.{History, content, AddsAll, IsCutShort}
+use Rattle.snap_outside.specs.Disk.{DeviceHistory, content, AddsAll, IsCutShort}
 use Rattle.gate_log.specs.Device.{MayAppend}
 use Rattle.gate_log.specs.Appends.{append_ops, end_behind, upgrading_ops}
 use Rattle.gate_log.specs.Opened.{beginning_ops}
@@ -51,12 +51,12 @@ pub record IsGrowth (bytes : List ℕ) (end : ℕ) (groups : List (List Record))
   pub parts : ops ≡ beginning_ops bytes ++ (groups_ops end groups ++ begun)
 
 -- what a device that told this gets between its opening and the first append
-abbrev pub upgrading_of : Option History → List DevOp
+abbrev pub upgrading_of : Option DeviceHistory → List DevOp
 upgrading_of None = []
 upgrading_of (Some h) = upgrading_ops (content h)
 
 -- the device's history grew so
-abbrev pub GrewBy : Option History → Option History → ℕ → List (List Record) → Option (List Record) → Type 0
+abbrev pub GrewBy : Option DeviceHistory → Option DeviceHistory → ℕ → List (List Record) → Option (List Record) → Type 0
 GrewBy None new end groups tried = new ≡ None
 GrewBy (Some h) new end groups tried = (ops : List DevOp) × IsGrowth (content h) end groups tried ops × AddsAll (Some h) new ops
 

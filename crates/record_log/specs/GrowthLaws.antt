@@ -2,7 +2,7 @@
 -- proof that rests on one takes it as a premise.
 use Rattle.std.specs.Prelude.{◌≡◌, ℕ, List, [], ◌∷◌, ◌++◌, Option, None, Some}
 use Rattle.snap_outside.specs.declared.devices.DevOp.{DevOp}
-use Rattle.snap_outside.specs.Disk.{History, disk, disk_after, content, settled, with_ops, IsImage, AddsAll, AddsUpToFault}
+use Rattle.snap_outside.specs.Disk.{DeviceHistory, disk, disk_after, content, settled, with_ops, IsImage, AddsAll, AddsUpToFault}
 use Rattle.gate_log.specs.declared.logs.LogItem.{LogItem}
 use Rattle.gate_log.specs.Appends.{append_ops, end_behind}
 use Rattle.gate_log.specs.Opened.{beginning_ops, Opened}
@@ -15,20 +15,20 @@ use Rattle.record_log.specs.Records.{spelled, HoldsRecords, RecordLog}
 -- the device is opened, and its log upgraded where it is of format 1
 abbrev pub OpeningGrows : Type 0
 OpeningGrows =
-    (old opened new : Option History) (end : ℕ) (found : List LogItem)
+    (old opened new : Option DeviceHistory) (end : ℕ) (found : List LogItem)
     → Opened old opened end found → AddsAll opened new (upgrading_of old) → GrewBy old new end [] None
 
 -- one more append is whole
 abbrev pub GroupGrows : Type 0
 GroupGrows =
-    (old between new : Option History) (end : ℕ) (groups : List (List Record)) (group : List Record)
+    (old between new : Option DeviceHistory) (end : ℕ) (groups : List (List Record)) (group : List Record)
     → GrewBy old between end groups None → MayAppendGroup (end_behind_groups end groups) group
     → AddsAll between new (append_ops (end_behind_groups end groups) (spelled group)) → GrewBy old new end (groups ++ group ∷ []) None
 
 -- one more append met a fault
 abbrev pub FaultGrows : Type 0
 FaultGrows =
-    (old between new : Option History) (end : ℕ) (groups : List (List Record)) (group : List Record)
+    (old between new : Option DeviceHistory) (end : ℕ) (groups : List (List Record)) (group : List Record)
     → GrewBy old between end groups None → MayAppendGroup (end_behind_groups end groups) group
     → AddsUpToFault between new (append_ops (end_behind_groups end groups) (spelled group)) → GrewBy old new end groups (Some group)
 
@@ -43,7 +43,7 @@ EndGrows =
 -- Where each append is whole the device holds a log of the earlier records and those of all groups.
 abbrev pub GrowthGives : Type 0
 GrowthGives =
-    (h : History) (opened : Option History) (end : ℕ) (found : List LogItem) (rs : List Record) (groups : List (List Record)) (ops : List DevOp)
+    (h : DeviceHistory) (opened : Option DeviceHistory) (end : ℕ) (found : List LogItem) (rs : List Record) (groups : List (List Record)) (ops : List DevOp)
     → Opened (Some h) opened end found → HoldsRecords (content h) rs → IsGrowth (content h) end groups None ops
     → RecordLog (with_ops h ops) (end_behind_groups end groups) (rs ++ all_records groups)
 
@@ -51,7 +51,7 @@ GrowthGives =
 -- holds the earlier records with those of these appends, or, only where one more has begun, with those of one more.
 abbrev pub MomentKeeps : Type 0
 MomentKeeps =
-    (h : History) (opened : Option History) (end : ℕ) (found : List LogItem)
+    (h : DeviceHistory) (opened : Option DeviceHistory) (end : ℕ) (found : List LogItem)
     (rs : List Record) (whole later : List (List Record)) (begun : List DevOp)
     → Opened (Some h) opened end found → HoldsRecords (content h) rs
     → MayAppendGroups end (whole ++ later) → IsNextBegun (end_behind_groups end whole) later begun
@@ -62,7 +62,7 @@ MomentKeeps =
 -- those of one more that has begun.
 abbrev pub GrowthKeeps : Type 0
 GrowthKeeps =
-    (h : History) (opened : Option History) (end : ℕ) (found : List LogItem)
+    (h : DeviceHistory) (opened : Option DeviceHistory) (end : ℕ) (found : List LogItem)
     (rs : List Record) (groups : List (List Record)) (tried : Option (List Record)) (ops : List DevOp)
     → Opened (Some h) opened end found → disk h ≡ settled (content h) → HoldsRecords (content h) rs
     → IsGrowth (content h) end groups tried ops

@@ -2,7 +2,7 @@
 -- as a premise.
 use Rattle.std.specs.Prelude.{◌≡◌, ℕ, ◌<◌, ◌≤◌, List, length, Option, Some, IfSome}
 use Rattle.std.specs.List.{AllByRecursion}
-use Rattle.snap_outside.specs.Disk.{History, content}
+use Rattle.snap_outside.specs.Disk.{DeviceHistory, content}
 use Rattle.gate_log.specs.declared.limits.TheConstants.{LARGEST_GROUP, NEW_LOG_SIZE}
 use Rattle.gate_log.specs.declared.logs.LogItem.{LogItem}
 use Rattle.gate_log.specs.declared.opens.OpenNo.{OpenNo}
@@ -33,7 +33,7 @@ RecordsAreNotDamaged =
 -- on a device that holds records no item is found that is no record
 abbrev pub NoRecordIsBad : Type 0
 NoRecordIsBad =
-    (h : History) (new : Option History) (end offset : ℕ) (items : List LogItem) (rs : List Record)
+    (h : DeviceHistory) (new : Option DeviceHistory) (end offset : ℕ) (items : List LogItem) (rs : List Record)
     → Opened (Some h) new end items → HoldsRecords (content h) rs → ¬ IsFirstBadIn items offset
 
 -- ---- a device
@@ -41,13 +41,13 @@ NoRecordIsBad =
 -- a device that was opened held the records that the found items are
 abbrev pub OpenedHeld : Type 0
 OpenedHeld =
-    (h : History) (new : Option History) (end : ℕ) (items : List LogItem) (rs : List Record)
+    (h : DeviceHistory) (new : Option DeviceHistory) (end : ℕ) (items : List LogItem) (rs : List Record)
     → Opened (Some h) new end items → AreItemsOf items rs → HoldsRecords (content h) rs
 
 -- a device with a log of these items has a log of the records that they are
 abbrev pub OpenedHolds : Type 0
 OpenedHolds =
-    (g : History) (end : ℕ) (items : List LogItem) (rs : List Record)
+    (g : DeviceHistory) (end : ℕ) (items : List LogItem) (rs : List Record)
     → DeviceLog g end (bytes_of items) → AreItemsOf items rs → RecordLog g end rs
 
 -- what items are read as may be written
@@ -56,22 +56,22 @@ ItemsAreRecords = (items : List LogItem) (rs : List Record) → AreItemsOf items
 
 -- a device with a log of records holds them
 abbrev pub RecordLogHolds : Type 0
-RecordLogHolds = (h : History) (end : ℕ) (rs : List Record) → RecordLog h end rs → HoldsRecords (content h) rs
+RecordLogHolds = (h : DeviceHistory) (end : ℕ) (rs : List Record) → RecordLog h end rs → HoldsRecords (content h) rs
 
 -- opening loses no record, whatever a crash leaves
 abbrev pub OpeningKeepsRecords : Type 0
 OpeningKeepsRecords =
-    (old new : Option History) (end : ℕ) (items : List LogItem)
+    (old new : Option DeviceHistory) (end : ℕ) (items : List LogItem)
     → Opened old new end items → MadeSafely old new → KeepsRecords old new
 
 -- an opening that is refused loses no record, whatever a crash leaves
 abbrev pub RefusalKeepsRecords : Type 0
-RefusalKeepsRecords = (old new : Option History) (no : OpenNo) → Refused old new no → MadeSafely old new → KeepsRecords old new
+RefusalKeepsRecords = (old new : Option DeviceHistory) (no : OpenNo) → Refused old new no → MadeSafely old new → KeepsRecords old new
 
 -- the upgrade of an opened log loses no record, whatever it comes to and whatever a crash leaves
 abbrev pub UpgradeKeepsRecords : Type 0
 UpgradeKeepsRecords =
-    (old opened new : Option History) (found_end end : ℕ) (items : List LogItem)
+    (old opened new : Option DeviceHistory) (found_end end : ℕ) (items : List LogItem)
     → Opened old opened found_end items → IfSome opened (λ g. DeviceLog g end (bytes_of items))
     → KeepsRecords old opened → UpgradesSafely opened new end → KeepsRecords old new
 

@@ -2,7 +2,7 @@
 use Rattle.std.specs.Prelude.{◌≡◌, ℕ, ◌+◌, ◌⊎◌, List, [], ◌∷◌, ◌++◌, map, Option, IfSome, ⊤}
 use Rattle.std.specs.List.{AllByRecursion}
 use Rattle.snap_outside.specs.declared.devices.DevOp.{DevOp}
-use Rattle.snap_outside.specs.Disk.{History, disk, content, settled, EachMoment, AddsAll}
+use Rattle.snap_outside.specs.Disk.{DeviceHistory, disk, content, settled, EachMoment, AddsAll}
 use Rattle.gate_log.specs.declared.logs.LogItem.{LogItem}
 use Rattle.gate_log.specs.Bytes.{IsLog}
 use Rattle.gate_log.specs.Device.{DeviceLog}
@@ -22,7 +22,7 @@ pub record HoldsRecords (bytes : List ℕ) (rs : List Record) : Type 0 where
   pub each : AllByRecursion IsRecord rs
 
 -- The device holds a log of these records whose closed gate stands at `end`, and nothing of it is loose.
-pub record RecordLog (h : History) (end : ℕ) (rs : List Record) : Type 0 where
+pub record RecordLog (h : DeviceHistory) (end : ℕ) (rs : List Record) : Type 0 where
   pub log : DeviceLog h end (spelled rs)
   pub each : AllByRecursion IsRecord rs
 
@@ -52,19 +52,19 @@ AreNoRecords items Memory = ⊤
 -- ---- crashes
 
 -- Whatever a crash leaves at any moment of the call holds the records that the device held, if it was settled.
-abbrev pub KeepsRecords : Option History → Option History → Type 0
+abbrev pub KeepsRecords : Option DeviceHistory → Option DeviceHistory → Type 0
 KeepsRecords old new =
     IfSome old (λ h. (ops : List DevOp) × AddsAll old new ops
     × (disk h ≡ settled (content h) → (rs : List Record) → HoldsRecords (content h) rs
     → EachMoment (disk h) ops (λ image. HoldsRecords image rs)))
 
 -- The device held these records; now it holds the same with some added.
-abbrev pub AppendsRecords : Option History → Option History → ℕ → ℕ → List Record → Type 0
+abbrev pub AppendsRecords : Option DeviceHistory → Option DeviceHistory → ℕ → ℕ → List Record → Type 0
 AppendsRecords old new end_before end_after added =
     IfSome old (λ h. IfSome new (λ g. (rs : List Record) → RecordLog h end_before rs → RecordLog g end_after (rs ++ added)))
 
 -- Whatever a crash leaves at any moment of the call holds the records from before it, or these with all that are added.
-abbrev pub CrashesRecords : Option History → Option History → ℕ → List Record → Type 0
+abbrev pub CrashesRecords : Option DeviceHistory → Option DeviceHistory → ℕ → List Record → Type 0
 CrashesRecords old new end added =
     IfSome old (λ h. (ops : List DevOp) × AddsAll old new ops
     × ((rs : List Record) → RecordLog h end rs → EachMoment (disk h) ops (λ image. HoldsRecords image rs ⊎ HoldsRecords image (rs ++ added))))

@@ -7,13 +7,13 @@ use Rattle.record_log.specs.gate_log.State.{LogState, log_at}
 use Rattle.record_log.specs.Growth.{end_behind_groups, GrewBy}
 use Rattle.run_effects.specs.Groups.{groups_of, group_behind}
 use Rattle.snap_outside.specs.Causes.{Rose}
-use Rattle.snap_outside.specs.Disk.{History}
+use Rattle.snap_outside.specs.Disk.{DeviceHistory}
 use Rattle.record_log.specs.txn_records.declared.records.Record.{Record}
 
 -- Whatever groups the log's device had got since it was opened, it got these behind them, and a front of the append of one
 -- that met a fault, where one did.
 abbrev pub GrewOn : LogState → LogState → List (List Record) → Option (List Record) → Type 0
-GrewOn old new groups tried = (device : Option History) (end : ℕ) (first : List (List Record))
+GrewOn old new groups tried = (device : Option DeviceHistory) (end : ℕ) (first : List (List Record))
     → GrewBy device old.told end first None → old.end ≡ end_behind_groups end first → GrewBy device new.told end (first ++ groups) tried
 
 -- A log got these groups, one append for each, and then one that met a fault of the device, where one did.

@@ -4,7 +4,7 @@ use Rattle.std.proofs.lemmas.List.{append_cancel_left}
 use Rattle.std.specs.Prelude.{IfSome}
 use Rattle.std.specs.List.{AllZip}
 use Rattle.snap_base.specs.declared.transactions.State.{State}
-use Rattle.snap_outside.specs.Disk.{History, content}
+use Rattle.snap_outside.specs.Disk.{DeviceHistory, content}
 use Rattle.gate_log.specs.declared.logs.LogItem.{LogItem}
 use Rattle.gate_log.specs.declared.opens.OpenNo.TheVariants as refusal
 use Rattle.gate_log.specs.Opened.{Opened, Refused}
@@ -103,7 +103,7 @@ no_start laws logs states o ending.Memory begins why = refl
 
 same_records : Laws → (d : Device) (rs xs : List Record) → TellsRecords d rs → DeviceHolds d xs → xs ≡ rs
 same_records laws d rs xs tells holds =
-    laws.one_list (content tells.0) xs rs (subst (λ (m : Option History). IfSome m (λ h. HoldsRecords (content h) xs)) tells.1 holds) tells.2
+    laws.one_list (content tells.0) xs rs (subst (λ (m : Option DeviceHistory). IfSome m (λ h. HoldsRecords (content h) xs)) tells.1 holds) tells.2
 
 all_same : Laws → (ds : List Device) (logs others : List (List Record)) → AllZip TellsRecords ds logs → AllZip DeviceHolds ds others → others ≡ logs
 all_same laws [] [] [] tells holds = refl
@@ -123,19 +123,19 @@ tells_at (suc count) n (d ∷ ds) [] lt in_ds tells = absurd tells
 tells_at (suc count) zero (d ∷ ds) (l ∷ logs) lt in_ds tells = tells.0
 tells_at (suc count) (suc n) (d ∷ ds) (l ∷ logs) lt in_ds tells = tells_at count n ds logs (omega (arith, lt)) (omega (arith, in_ds)) tells.1
 
-opens_well : Laws → (d : Device) (new : Option History) (rs : List Record) (offset : ℕ) → TellsRecords d rs → Refused d.told new (refusal.NotALog offset) → ⊥
+opens_well : Laws → (d : Device) (new : Option DeviceHistory) (rs : List Record) (offset : ℕ) → TellsRecords d rs → Refused d.told new (refusal.NotALog offset) → ⊥
 opens_well laws d new rs offset tells refused =
-    let x = subst (λ (m : Option History). Refused m new (refusal.NotALog offset)) tells.1 refused in
+    let x = subst (λ (m : Option DeviceHistory). Refused m new (refusal.NotALog offset)) tells.1 refused in
     laws.foreign (content tells.0) rs offset x.1.0 tells.2 x.1.1
 
-opens_whole : Laws → (d : Device) (new : Option History) (rs : List Record) (offset : ℕ) → TellsRecords d rs → Refused d.told new (refusal.Damage offset) → ⊥
+opens_whole : Laws → (d : Device) (new : Option DeviceHistory) (rs : List Record) (offset : ℕ) → TellsRecords d rs → Refused d.told new (refusal.Damage offset) → ⊥
 opens_whole laws d new rs offset tells refused =
-    let x = subst (λ (m : Option History). Refused m new (refusal.Damage offset)) tells.1 refused in
+    let x = subst (λ (m : Option DeviceHistory). Refused m new (refusal.Damage offset)) tells.1 refused in
     laws.damaged (content tells.0) rs offset x.1.0 tells.2 x.1.1
 
-decodes : Laws → (d : Device) (new : Option History) (rs : List Record) (end offset : ℕ) (items : List LogItem) → TellsRecords d rs → Opened d.told new end items → IsFirstBadIn items offset → ⊥
+decodes : Laws → (d : Device) (new : Option DeviceHistory) (rs : List Record) (end offset : ℕ) (items : List LogItem) → TellsRecords d rs → Opened d.told new end items → IsFirstBadIn items offset → ⊥
 decodes laws d new rs end offset items tells opened bad =
-    laws.bad tells.0 new end offset items rs (subst (λ (m : Option History). Opened m new end items) tells.1 opened) tells.2 bad
+    laws.bad tells.0 new end offset items rs (subst (λ (m : Option DeviceHistory). Opened m new end items) tells.1 opened) tells.2 bad
 
 recent_at : (count n : ℕ) (ds : List Device) → n < count → n < length ds → HoldNoOld count ds → HoldsNoOld (device_at ds n)
 recent_at zero n ds lt in_ds all = absurd (omega (arith, lt))
@@ -145,8 +145,8 @@ recent_at (suc count) (suc n) (d ∷ ds) lt in_ds all = recent_at count n ds (om
 
 never_old : (d : Device) (rs : List Record) → TellsRecords d rs → HoldsNoOld d → HoldsOld d → ⊥
 never_old d rs tells none old =
-    let no : ¬ IsOld (content tells.0) = subst (λ (m : Option History). IfSome m (λ h. ¬ IsOld (content h))) tells.1 none in
-    no (subst (λ (m : Option History). IfSome m (λ h. IsOld (content h))) tells.1 old)
+    let no : ¬ IsOld (content tells.0) = subst (λ (m : Option DeviceHistory). IfSome m (λ h. ¬ IsOld (content h))) tells.1 none in
+    no (subst (λ (m : Option DeviceHistory). IfSome m (λ h. IsOld (content h))) tells.1 old)
 
 module _ (laws : Laws) (count : ℕ) (states : List State) (before after : List Device) (records : List (List Record)) (o : Opening) (few : count ≤ length before) (may : MayOpen count states before after records o) where
   told : (n : ℕ) → n < count → TellsRecords (device_at before n) (records_at records n)

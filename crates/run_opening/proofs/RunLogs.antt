@@ -3,7 +3,7 @@ use Rattle.std.proofs.Common.{◌≡◌, ℕ, ◌<◌, inl, inr, List, [], ◌�
 use Rattle.std.specs.Prelude.{IfSome, ◌⊎◌}
 use Rattle.std.specs.List.{AllByRecursion, AllZip}
 use Rattle.snap_outside.specs.declared.devices.DevOp.{DevOp}
-use Rattle.snap_outside.specs.Disk.{History, Disk, disk, content, settled, EachMoment, AddsAll, with_ops}
+use Rattle.snap_outside.specs.Disk.{DeviceHistory, Disk, disk, content, settled, EachMoment, AddsAll, with_ops}
 use Rattle.snap_outside.specs.Moments.{adds_join, moments_join, moments_weaker, disk_join}
 use Rattle.gate_log.specs.declared.logs.LogItem.{LogItem}
 use Rattle.gate_log.specs.Appends.{append_ops, end_behind, upgrading_ops}
@@ -35,22 +35,22 @@ pub record LogLaws : Type 0 where
 
 -- ---- opened
 
-if_some : (m : Option History) (P Q : History → Type 0) → ((g : History) → P g → Q g) → IfSome m P → IfSome m Q
+if_some : (m : Option DeviceHistory) (P Q : DeviceHistory → Type 0) → ((g : DeviceHistory) → P g → Q g) → IfSome m P → IfSome m Q
 if_some None P Q then given = tt
 if_some (Some g) P Q then given = then g given
 
 -- the closed gate of the log that was found is where the open log has it
-opened_at : LogLaws → (told mid new : Option History) (e end : ℕ) (items : List LogItem) → Opened told mid e items → AddsAll mid new (upgrading_of told)
+opened_at : LogLaws → (told mid new : Option DeviceHistory) (e end : ℕ) (items : List LogItem) → Opened told mid e items → AddsAll mid new (upgrading_of told)
     → IfSome new (λ g. DeviceLog g end (bytes_of items)) → Opened told mid end items
 opened_at laws None mid new e end items opened upgraded log = opened
 opened_at laws (Some h) mid new e end items opened upgraded log =
     let ops = beginning_ops (content h) in
     let adds : new ≡ Some (with_ops h ops) = adds_join (Some h) mid new (opening_ops (content h)) (upgrading_ops (content h)) (laws.adds h mid e items opened) upgraded in
-    let there : DeviceLog (with_ops h ops) end (bytes_of items) = subst (λ (m : Option History). IfSome m (λ g. DeviceLog g end (bytes_of items))) adds log in
+    let there : DeviceLog (with_ops h ops) end (bytes_of items) = subst (λ (m : Option DeviceHistory). IfSome m (λ g. DeviceLog g end (bytes_of items))) adds log in
     let here = laws.gives h mid e items opened in
     subst (λ (n : ℕ). Opened (Some h) mid n items) (laws.one_reading (content (with_ops h ops)) e end (bytes_of items) (bytes_of items) here.log there.log).0 opened
 
-held_of : LogLaws → (told new : Option History) (e : ℕ) (items : List LogItem) (rs : List Record) → Opened told new e items → AreItemsOf items rs → IfSome told (λ h. HoldsRecords (content h) rs)
+held_of : LogLaws → (told new : Option DeviceHistory) (e : ℕ) (items : List LogItem) (rs : List Record) → Opened told new e items → AreItemsOf items rs → IfSome told (λ h. HoldsRecords (content h) rs)
 held_of laws None new e items rs opened are = tt
 held_of laws (Some h) new e items rs opened are = laws.before h new e items rs opened are
 
@@ -85,9 +85,9 @@ run_logs laws (b ∷ before) others (l ∷ logs) (f ∷ found) (rs ∷ records) 
 
 -- ---- written to
 
-holds_more : (old new : Option History) (first last : ℕ) (rs added : List Record) (ops : List DevOp) → AddsAll old new ops → IfSome old (λ g. RecordLog g first (rs ++ all_records []))
+holds_more : (old new : Option DeviceHistory) (first last : ℕ) (rs added : List Record) (ops : List DevOp) → AddsAll old new ops → IfSome old (λ g. RecordLog g first (rs ++ all_records []))
     → AppendsRecords old new first last added → IfSome new (λ g. RecordLog g last (rs ++ all_records (added ∷ [])))
-holds_more None new first last rs added ops adds holds appends = subst (λ (m : Option History). IfSome m (λ g. RecordLog g last (rs ++ all_records (added ∷ [])))) (sym adds) tt
+holds_more None new first last rs added ops adds holds appends = subst (λ (m : Option DeviceHistory). IfSome m (λ g. RecordLog g last (rs ++ all_records (added ∷ [])))) (sym adds) tt
 holds_more (Some h) None first last rs added ops adds holds appends = tt
 holds_more (Some h) (Some g) first last rs added ops adds holds appends =
     subst (λ (x : List Record). RecordLog g last (rs ++ x)) (sym (append-nil added)) (appends rs (subst (λ (x : List Record). RecordLog h first x) (append-nil rs) holds))
@@ -99,9 +99,9 @@ written_log laws b l k end rs [] is w =
       opened = is.opened;
       low = is.low;
       held = is.held;
-      grew = subst (λ (m : Option History). GrewBy b.told m end [] None) (sym same.told) is.grew;
+      grew = subst (λ (m : Option DeviceHistory). GrewBy b.told m end [] None) (sym same.told) is.grew;
       gate = same.end ∙ is.gate;
-      holds = subst (λ (m : Option History). IfSome m (λ g. RecordLog g k.end (rs ++ all_records []))) (sym same.told)
+      holds = subst (λ (m : Option DeviceHistory). IfSome m (λ g. RecordLog g k.end (rs ++ all_records []))) (sym same.told)
           (subst (λ (n : ℕ). IfSome l.told (λ g. RecordLog g n (rs ++ all_records []))) (sym same.end) is.holds);
       second = w.format ∙ is.second;
       ready = w.ready;
@@ -125,8 +125,8 @@ written_log laws b l k end rs (r ∷ added) is w =
 
 -- ---- what a crash leaves
 
-module _ (one_list : OneListOfRecords) (h : History) (mid : Option History) (rs added : List Record) (keeps : KeepsRecords (Some h) mid) (held : HoldsRecords (content h) rs) where
-  abbrev between : History
+module _ (one_list : OneListOfRecords) (h : DeviceHistory) (mid : Option DeviceHistory) (rs added : List Record) (keeps : KeepsRecords (Some h) mid) (held : HoldsRecords (content h) rs) where
+  abbrev between : DeviceHistory
   between = record { first = h.first; ops = h.ops ++ keeps.0 }
 
   abbrev Either : List Record → List ℕ → Type 0
@@ -137,10 +137,10 @@ module _ (one_list : OneListOfRecords) (h : History) (mid : Option History) (rs 
       let first = moments_weaker (λ image. HoldsRecords image rs) (Either rs) (λ image there. inl there) (disk h) keeps.0 (keeps.2 quiet rs held) in
       moments_join (disk h) keeps.0 ops (Either rs) first (subst (λ (d : Disk). EachMoment d ops (Either rs)) (disk_join h.ops keeps.0 (settled h.first)) later)
 
-  pub keeps_or_adds : (new : Option History) (end : ℕ) → IfSome mid (λ g. RecordLog g end (rs ++ all_records [])) → CrashesRecords mid new end added → KeepsOrAdds (Some h) new added
+  pub keeps_or_adds : (new : Option DeviceHistory) (end : ℕ) → IfSome mid (λ g. RecordLog g end (rs ++ all_records [])) → CrashesRecords mid new end added → KeepsOrAdds (Some h) new added
   keeps_or_adds new end log crashes =
-      let there : RecordLog between end (rs ++ all_records []) = subst (λ (m : Option History). IfSome m (λ g. RecordLog g end (rs ++ all_records []))) keeps.1 log in
-      let crash = subst (λ (m : Option History). CrashesRecords m new end added) keeps.1 crashes in (
+      let there : RecordLog between end (rs ++ all_records []) = subst (λ (m : Option DeviceHistory). IfSome m (λ g. RecordLog g end (rs ++ all_records []))) keeps.1 log in
+      let crash = subst (λ (m : Option DeviceHistory). CrashesRecords m new end added) keeps.1 crashes in (
         keeps.0 ++ crash.0,
         crash.1 ∙ ap (λ (l : List DevOp). Some (record { first = h.first; ops = l })) (append_assoc h.ops keeps.0 crash.0),
         (λ quiet xs kept.
@@ -148,17 +148,17 @@ module _ (one_list : OneListOfRecords) (h : History) (mid : Option History) (rs 
             (all_moments crash.0 quiet (crash.2 rs (subst (λ (x : List Record). RecordLog between end x) (append-nil rs) there)))),
       )
 
-safely : LogLaws → (told mid new : Option History) (end : ℕ) (rs added : List Record) → IfSome told (λ h. HoldsRecords (content h) rs) → KeepsRecords told mid
+safely : LogLaws → (told mid new : Option DeviceHistory) (end : ℕ) (rs added : List Record) → IfSome told (λ h. HoldsRecords (content h) rs) → KeepsRecords told mid
     → IfSome mid (λ g. RecordLog g end (rs ++ all_records [])) → CrashesRecords mid new end added → KeepsOrAdds told new added
 safely laws None mid new end rs added held keeps log crashes = tt
 safely laws (Some h) mid new end rs added held keeps log crashes = keeps_or_adds laws.one_list h mid rs added keeps held new end log crashes
 
 -- opened, and then written to or not
-pub written_safely : LogLaws → (b : Device) (l : LogState) (end : ℕ) (rs added : List Record) (new : Option History) → IsRunLog b l end rs [] → KeepsRecords b.told l.told
+pub written_safely : LogLaws → (b : Device) (l : LogState) (end : ℕ) (rs added : List Record) (new : Option DeviceHistory) → IsRunLog b l end rs [] → KeepsRecords b.told l.told
     → CrashesRecords l.told new l.end added → KeepsOrAdds b.told new added
 written_safely laws b l end rs added new is keeps crashes = safely laws b.told l.told new l.end rs added is.held keeps is.holds crashes
 
-pub nothing_added : (old new : Option History) → KeepsOrAdds old new [] → KeepsRecords old new
+pub nothing_added : (old new : Option DeviceHistory) → KeepsOrAdds old new [] → KeepsRecords old new
 nothing_added None new keeps = tt
 nothing_added (Some h) new keeps = (
   keeps.0,

@@ -5,7 +5,7 @@ use Rattle.std.proofs.lemmas.Slice.Zip.{AllZip-long}
 use Rattle.std.specs.List.{AllByRecursion, AllZip}
 use Rattle.snap_base.specs.declared.transactions.State.{State}
 use Rattle.snap_outside.specs.Causes.{Rose}
-use Rattle.snap_outside.specs.Disk.{History, AddsUpToFault}
+use Rattle.snap_outside.specs.Disk.{DeviceHistory, AddsUpToFault}
 use Rattle.gate_log.specs.declared.limits.TheConstants.{FARTHEST_END}
 use Rattle.gate_log.specs.declared.logs.LogItem.{LogItem}
 use Rattle.gate_log.specs.Appends.{append_ops}
@@ -320,7 +320,7 @@ all_handled (b ∷ bs) (m ∷ ms) all = (record { prepared = inl all.0.opened; s
 pub nothing_done : ((ds : List Device) → AllZip IsTouched ds ds) → (count : ℕ) (states : List State) (ds : List Device) → HasOpenedNoRun count states ds ds ending.Memory
 nothing_done law count states ds = not_read count states ds ds ending.Memory (inl (inl (0, (λ log lt. absurd (omega (arith, lt))), record { opened = tt; others = refl }))) (all_handled ds ds (law ds))
 
-pub devices_long : {D : Type 0} (told : D → Option History) (faults : D → ℕ) (xs : List D) → length (devices_of told faults xs) ≡ length xs
+pub devices_long : {D : Type 0} (told : D → Option DeviceHistory) (faults : D → ℕ) (xs : List D) → length (devices_of told faults xs) ≡ length xs
 devices_long told faults [] = refl
 devices_long told faults (x ∷ xs) = ap (λ (n : ℕ). suc n) (devices_long told faults xs)
 

@@ -5,7 +5,7 @@ use Rattle.std.specs.List.{AllByRecursion, AllZip}
 use Rattle.snap_base.specs.declared.transactions.State.{State}
 use Rattle.snap_outside.specs.Causes.{Rose}
 use Rattle.snap_outside.specs.declared.devices.DevOp.{DevOp}
-use Rattle.snap_outside.specs.Disk.{History, disk, content, settled, EachMoment, AddsAll}
+use Rattle.snap_outside.specs.Disk.{DeviceHistory, disk, content, settled, EachMoment, AddsAll}
 use Rattle.gate_log.specs.declared.limits.TheConstants.{FARTHEST_END}
 use Rattle.gate_log.specs.declared.logs.LogItem.{LogItem}
 use Rattle.gate_log.specs.Opened.{Opened}
@@ -60,7 +60,7 @@ records_at logs n = slice_index_or logs n []
 -- A log of a run: its device held these records; it was opened, with its closed gate at `end`, and upgraded where it was of format 1;
 -- and since then these groups were appended, one after the other, and nothing else.
 pub record IsRunLog (before : Device) (log : LogState) (end : ℕ) (records : List Record) (groups : List (List Record)) : Type 0 where
-  pub opened : (mid : Option History) × (found : List LogItem) × Opened before.told mid end found
+  pub opened : (mid : Option DeviceHistory) × (found : List LogItem) × Opened before.told mid end found
   pub low : end ≤ FARTHEST_END
   pub held : DeviceHolds before records
   pub grew : GrewBy before.told log.told end groups None
@@ -99,7 +99,7 @@ AreHeldEmpty count before = AllByRecursion (λ (d : Device). DeviceHolds d []) (
 pub record FailsFirst (count : ℕ) (states : List State) (before after : List Device) : Type 0 where
   pub empty : AreHeldEmpty count before
   pub rose : Rose (device_at before 0).faults (device_at after 0).faults
-  pub grew : (end : ℕ) × (mid : Option History) × (found : List LogItem) × Opened (device_at before 0).told mid end found
+  pub grew : (end : ℕ) × (mid : Option DeviceHistory) × (found : List LogItem) × Opened (device_at before 0).told mid end found
       × GrewBy (device_at before 0).told (device_at after 0).told end [] (Some (first_record count states ∷ []))
   pub begun : AllZip IsBegun (drop 1 (take count before)) (drop 1 (take count after))
   pub others : drop count after ≡ drop count before
@@ -115,7 +115,7 @@ IsNoRun count states before after answer =
 -- ---- crashes
 
 -- Whatever a crash leaves at any moment of the call holds the records that the device held, or these with all that are added.
-abbrev pub KeepsOrAdds : Option History → Option History → List Record → Type 0
+abbrev pub KeepsOrAdds : Option DeviceHistory → Option DeviceHistory → List Record → Type 0
 KeepsOrAdds old new added =
     IfSome old (λ h. (ops : List DevOp) × AddsAll old new ops
     × (disk h ≡ settled (content h) → (rs : List Record) → HoldsRecords (content h) rs
@@ -133,7 +133,7 @@ AreSafe count states before after =
 
 -- the device tells that it holds these records
 abbrev pub TellsRecords : Device → List Record → Type 0
-TellsRecords d rs = (h : History) × (d.told ≡ Some h) × HoldsRecords (content h) rs
+TellsRecords d rs = (h : DeviceHistory) × (d.told ≡ Some h) × HoldsRecords (content h) rs
 
 -- The devices tell records on which a run of the text begins, none of them in format 1, and no count of theirs rises.
 pub record MayOpen (count : ℕ) (states : List State) (before after : List Device) (records : List (List Record)) (o : Opening) : Type 0 where

@@ -5,7 +5,7 @@ use Rattle.std.proofs.KnownBytes.{Appends-trans, Appends-kept}
 use Rattle.std.proofs.lemmas.Grind.{flat_map-append}
 use Rattle.run_printing.specs.declared.writes.WriteNo.{WriteNo}
 use Rattle.run_printing.specs.declared.writes.WriteNo.TheVariants as writing
-use Rattle.run_printing.specs.Printed.{AppendsFront, AppendsLines, IsCut}
+use Rattle.run_printing.specs.Printed.{AppendsFront, AppendsLines, IsBrokenOff}
 
 -- some bytes, and a front of those behind them
 pub front_on : (a b c : Option (List ℕ)) (before piece behind bytes : List ℕ) → bytes ≡ before ++ (piece ++ behind) → Appends a b before → AppendsFront b c piece
@@ -19,7 +19,7 @@ front_on a b c before piece behind bytes are h f = (
 
 -- some lines were written, and then what comes next was cut
 pub lines_cut : {X : Type 0} (line : X → List ℕ) (old mid new : Option (List ℕ)) (before since now : ℕ) (first piece rest xs : List X) → xs ≡ first ++ (piece ++ rest)
-    → Appends old mid (flat_map line first) → before ≤ since → IsCut mid new since now (flat_map line piece) → AppendsLines line old new before now xs
+    → Appends old mid (flat_map line first) → before ≤ since → IsBrokenOff mid new since now (flat_map line piece) → AppendsLines line old new before now xs
 lines_cut line old mid new before since now first piece rest xs are taken later (inl none) = inl (first, piece ++ rest, are, Appends-kept old mid new (flat_map line first) taken none)
 lines_cut line old mid new before since now first piece rest xs are taken later (inr cut) = inr (
   omega (arith, later, cut.0),

@@ -16,8 +16,8 @@ abbrev pub AppendsFront : Option (List ℕ) → Option (List ℕ) → List ℕ �
 AppendsFront old new bytes = (front rest : List ℕ) × (bytes ≡ front ++ rest) × Appends old new front
 
 -- Nothing was written, or a front of the bytes, since the sink failed, whose count rose from the one number to the other.
-abbrev pub IsCut : Option (List ℕ) → Option (List ℕ) → ℕ → ℕ → List ℕ → Type 0
-IsCut old new before now bytes = Keeps old new ⊎ (Rose before now × AppendsFront old new bytes)
+abbrev pub IsBrokenOff : Option (List ℕ) → Option (List ℕ) → ℕ → ℕ → List ℕ → Type 0
+IsBrokenOff old new before now bytes = Keeps old new ⊎ (Rose before now × AppendsFront old new bytes)
 
 -- Whole lines were written: those of all these, or of some that come first. A line is cut only where the sink failed.
 abbrev pub AppendsLines : {X : Type 0} → (X → List ℕ) → Option (List ℕ) → Option (List ℕ) → ℕ → ℕ → List X → Type 0

@@ -1,7 +1,7 @@
 //! The trace of a run: a line for each of its events.
 ghost use Rattle.std.specs.Prelude.{◌≡◌, ◌≤◌, [], IfOk, IsErrOf, OnOk, OnErr, string_bytes};
 ghost use Rattle.std.specs.Io.KnownBytes.{Appends};
-ghost use Rattle.run_printing.specs.Printed.{AppendsLines, IsCut, traced_line};
+ghost use Rattle.run_printing.specs.Printed.{AppendsLines, IsBrokenOff, traced_line};
 ghost use Rattle.snap_outside.specs.Causes.{Rose, EndsAtFault};
 ghost use Rattle.trace_text.specs.Traces.{trace_of};
 
@@ -39,7 +39,7 @@ pub fn write_trace<T: Sink>(alloc: Global, kept: &[Event], trace: &mut T) -> Res
 /// Writes the lines of these events at once.
 fn write_lines<T: Sink>(alloc: Global, events: &[Event], trace: &mut T) -> Result<(), WriteNo>
     ensures whole { OnOk result (Appends (T.taken trace.old) (T.taken trace.new) (trace_of events.now)) }
-    ensures cut { OnErr result (IsCut (T.taken trace.old) (T.taken trace.new) (T.faults trace.old) (T.faults trace.new) (trace_of events.now)) }
+    ensures cut { OnErr result (IsBrokenOff (T.taken trace.old) (T.taken trace.new) (T.faults trace.old) (T.faults trace.new) (trace_of events.now)) }
     ensures fault { IsErrOf result WriteNo.Fault → Rose (T.faults trace.old) (T.faults trace.new) }
     ensures later { T.faults trace.old ≤ T.faults trace.new }
     ensures once { EndsAtFault (¬ IsErrOf result WriteNo.Fault) (T.faults trace.old) (T.late trace.old) (T.faults trace.new) (T.late trace.new) }

@@ -4,7 +4,7 @@ ghost use Rattle.std.specs.Io.KnownBytes.{Appends};
 ghost use Rattle.core_events.specs.Meant.{event_meant};
 ghost use Rattle.protocol.specs.Report.{replied};
 ghost use Rattle.protocol.specs.Words.{is_among};
-ghost use Rattle.run_printing.specs.Printed.{AppendsLines, IsCut, unanswered, unsure_line};
+ghost use Rattle.run_printing.specs.Printed.{AppendsLines, IsBrokenOff, unanswered, unsure_line};
 ghost use Rattle.snap_outside.specs.Causes.{EndsAtFault};
 
 use crate::writes::write_text;
@@ -63,7 +63,7 @@ fn mark(answered: &mut Vec<bool>, event: Event)
 /// Writes the line of one transaction, and tells whether it was written whole.
 fn write_unsure<O: Sink>(alloc: Global, out: &mut O, log: u8, number: u32) -> bool
     ensures whole { IsTrue result → Appends (O.taken out.old) (O.taken out.new) (unsure_line log number) }
-    ensures cut { IsFalse result → IsCut (O.taken out.old) (O.taken out.new) (O.faults out.old) (O.faults out.new) (unsure_line log number) }
+    ensures cut { IsFalse result → IsBrokenOff (O.taken out.old) (O.taken out.new) (O.faults out.old) (O.faults out.new) (unsure_line log number) }
     ensures later { O.faults out.old ≤ O.faults out.new }
     ensures once { EndsAtFault (IsTrue result) (O.faults out.old) (O.late out.old) (O.faults out.new) (O.late out.new) }
 {

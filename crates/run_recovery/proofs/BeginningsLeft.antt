@@ -16,11 +16,11 @@ use Rattle.run_opening.specs.Opens.{first_groups, records_at, with_first}
 use Rattle.run_opening.specs.Starts.{IsStart}
 use Rattle.run_effects.specs.Groups.{group_behind, groups_of}
 use Rattle.record_log.specs.snap_outside.declared.devices.DevOp.{DevOp}
-use Rattle.record_log.specs.snap_outside.Disk.{History, IsImage, content, disk, disk_after, settled}
+use Rattle.record_log.specs.snap_outside.Disk.{DeviceHistory, IsImage, content, disk, disk_after, settled}
 use Rattle.snap_recover.specs.declared.openings.Opening.{Opening}
 use Rattle.snap_work.specs.Kept.{KeepsLimits}
 use Rattle.record_log.specs.txn_records.declared.records.Record.{Record}
-use Rattle.run_recovery.specs.Beginnings.{BeginsAgain, CrashBefore, HoldEach, IsFront, KeepsOrBegins}
+use Rattle.run_recovery.specs.Beginnings.{BeginsAgain, CrashBefore, HoldEach, AreMadeFirst, KeepsOrBegins}
 use Rattle.run_recovery.specs.OneRun.{TheRun, machine_in}
 use Rattle.run_recovery.specs.Runs.{IsRunDevice}
 use Rattle.run_recovery.proofs.SaidLogs.{said_written}
@@ -31,7 +31,7 @@ may_front : (end : ℕ) (xs ys : List (List Record)) → MayAppendGroups end (xs
 may_front end [] ys may = tt
 may_front end (x ∷ xs) ys may = (may.0, may_front (end_behind end (spelled x)) xs ys may.1)
 
-grew_first : (h : History) (new : Option History) (end : ℕ) (xs ys : List (List Record)) (tried : Option (List Record)) → GrewBy (Some h) new end (xs ++ ys) tried → MayAppendGroups end xs
+grew_first : (h : DeviceHistory) (new : Option DeviceHistory) (end : ℕ) (xs ys : List (List Record)) (tried : Option (List Record)) → GrewBy (Some h) new end (xs ++ ys) tried → MayAppendGroups end xs
 grew_first h new end xs ys tried grew = may_front end xs ys grew.1.may
 
 first_growth : (bytes : List ℕ) (end : ℕ) (groups : List (List Record)) → MayAppendGroups end groups → IsGrowth bytes end groups None (beginning_ops bytes ++ groups_ops end groups)
@@ -96,10 +96,10 @@ each_left keeps r images crash l lt =
     here : IsRunDevice (device_at r.before l) (device_at r.after l) rs (first ++ groups) tried
     here = r.devices.each l lt
 
-    c : (h : History) × ((device_at r.before l).told ≡ Some h) × (disk h ≡ settled (content h)) × IsFront (crash.made l) (beginning_ops (content h) ++ groups_ops here.end first) × IsImage (disk_after (crash.made l) (disk h)) (images l)
+    c : (h : DeviceHistory) × ((device_at r.before l).told ≡ Some h) × (disk h ≡ settled (content h)) × AreMadeFirst (crash.made l) (beginning_ops (content h) ++ groups_ops here.end first) × IsImage (disk_after (crash.made l) (disk h)) (images l)
     c = crash.each l lt
 
-    h : History
+    h : DeviceHistory
     h = c.0
 
     opened : Opened (Some h) here.opened.0 here.end here.opened.1

@@ -12,7 +12,7 @@ use Rattle.run_opening.specs.Opens.{AreHeldEmpty, AreSafe, KeepsOrAdds, records_
 use Rattle.run_opening.specs.Starts.{first_record}
 use Rattle.snap_base.specs.declared.transactions.State.{State}
 use Rattle.record_log.specs.snap_outside.declared.devices.DevOp.{DevOp}
-use Rattle.record_log.specs.snap_outside.Disk.{History, EachMoment, IsImage, content, disk, disk_after, settled, with_ops}
+use Rattle.record_log.specs.snap_outside.Disk.{DeviceHistory, EachMoment, IsImage, content, disk, disk_after, settled, with_ops}
 use Rattle.record_log.specs.snap_outside.Moments.{moment_between}
 use Rattle.snap_recover.specs.declared.openings.Opening.{Opening}
 use Rattle.record_log.specs.txn_records.declared.records.Record.{Record}
@@ -24,22 +24,22 @@ use Rattle.run_recovery.proofs.SaidLogs.{said_written}
 
 -- ---- devices by their numbers
 
-told_at : (R : Device → Device → Type 0) (bs ms : List Device) (l : ℕ) (h : History) → AllZip R bs ms → (device_at bs l).told ≡ Some h → R (device_at bs l) (device_at ms l)
+told_at : (R : Device → Device → Type 0) (bs ms : List Device) (l : ℕ) (h : DeviceHistory) → AllZip R bs ms → (device_at bs l).told ≡ Some h → R (device_at bs l) (device_at ms l)
 told_at R [] ms l h all told = absurd (cc)
 told_at R (b ∷ bs) [] l h all told = absurd all
 told_at R (b ∷ bs) (m ∷ ms) zero h all told = all.0
 told_at R (b ∷ bs) (m ∷ ms) (suc l) h all told = told_at R bs ms l h all.1 told
 
-told_behind : (R : Device → Device → Type 0) (bs ms : List Device) (l : ℕ) (h : History) → AllZip R (drop 1 bs) (drop 1 ms) → (device_at bs (suc l)).told ≡ Some h → R (device_at bs (suc l)) (device_at ms (suc l))
+told_behind : (R : Device → Device → Type 0) (bs ms : List Device) (l : ℕ) (h : DeviceHistory) → AllZip R (drop 1 bs) (drop 1 ms) → (device_at bs (suc l)).told ≡ Some h → R (device_at bs (suc l)) (device_at ms (suc l))
 told_behind R [] ms l h all told = absurd (cc)
 told_behind R (b ∷ bs) [] l h all told = told_at R bs [] l h all told
 told_behind R (b ∷ bs) (m ∷ ms) l h all told = told_at R bs ms l h all told
 
 -- a device that holds no record
-empty_at : (count : ℕ) (bs : List Device) (l : ℕ) (h : History) → AllByRecursion (λ (d : Device). DeviceHolds d []) (take count bs) → l < count → (device_at bs l).told ≡ Some h → HoldsRecords (content h) []
+empty_at : (count : ℕ) (bs : List Device) (l : ℕ) (h : DeviceHistory) → AllByRecursion (λ (d : Device). DeviceHolds d []) (take count bs) → l < count → (device_at bs l).told ≡ Some h → HoldsRecords (content h) []
 empty_at zero bs l h all lt told = absurd (omega (arith, lt))
 empty_at (suc count) [] l h all lt told = absurd (cc)
-empty_at (suc count) (b ∷ bs) zero h all lt told = subst (λ (t : Option History). IfSome t (λ g. HoldsRecords (content g) [])) told all.0
+empty_at (suc count) (b ∷ bs) zero h all lt told = subst (λ (t : Option DeviceHistory). IfSome t (λ g. HoldsRecords (content g) [])) told all.0
 empty_at (suc count) (b ∷ bs) (suc l) h all lt told = empty_at count bs l h all.1 (omega (arith, lt)) told
 
 all_empty : (records : List (List Record)) → ((l : ℕ) → l < length records → records_at records l ≡ []) → AreEmpty records
@@ -48,31 +48,31 @@ all_empty (rs ∷ records) each = (each 0 (omega arith), all_empty records (λ l
 
 -- ---- one device
 
-ops_of : Option History → List DevOp
+ops_of : Option DeviceHistory → List DevOp
 ops_of None = []
 ops_of (Some g) = g.ops
 
 -- the operations of a call are known by what its device tells
-same_ops : (h : History) (ops made more : List DevOp) (new : Option History) → new ≡ Some (with_ops h ops) → new ≡ Some (with_ops h (made ++ more)) → ops ≡ made ++ more
+same_ops : (h : DeviceHistory) (ops made more : List DevOp) (new : Option DeviceHistory) → new ≡ Some (with_ops h ops) → new ≡ Some (with_ops h (made ++ more)) → ops ≡ made ++ more
 unfolding ops_of
 same_ops h ops made more new a b = append_cancel_left h.ops ops (made ++ more) (ap ops_of (sym a ∙ b))
 
 -- where a fact holds at each moment of a call, it holds of what a crash leaves
-left_so : (P : List ℕ → Type 0) (h : History) (ops made more : List DevOp) (new : Option History) (image : List ℕ) → new ≡ Some (with_ops h ops) → new ≡ Some (with_ops h (made ++ more))
+left_so : (P : List ℕ → Type 0) (h : DeviceHistory) (ops made more : List DevOp) (new : Option DeviceHistory) (image : List ℕ) → new ≡ Some (with_ops h ops) → new ≡ Some (with_ops h (made ++ more))
     → EachMoment (disk h) ops P → IsImage (disk_after made (disk h)) image → P image
 left_so P h ops made more new image a b each left =
     moment_between (disk h) made more P (subst (λ (xs : List DevOp). EachMoment (disk h) xs P) (same_ops h ops made more new a b) each) image left
 
-kept_one : (h : History) (old new : Option History) (made more : List DevOp) (rs : List Record) (image : List ℕ) → old ≡ Some h → KeepsRecords old new → new ≡ Some (with_ops h (made ++ more))
+kept_one : (h : DeviceHistory) (old new : Option DeviceHistory) (made more : List DevOp) (rs : List Record) (image : List ℕ) → old ≡ Some h → KeepsRecords old new → new ≡ Some (with_ops h (made ++ more))
     → disk h ≡ settled (content h) → HoldsRecords (content h) rs → IsImage (disk_after made (disk h)) image → HoldsRecords image rs
 kept_one h old new made more rs image told keeps tells quiet held left =
-    let k = subst (λ (t : Option History). KeepsRecords t new) told keeps in
+    let k = subst (λ (t : Option DeviceHistory). KeepsRecords t new) told keeps in
     left_so (λ i. HoldsRecords i rs) h k.0 made more new image k.1 tells (k.2 quiet rs held) left
 
-added_one : (h : History) (old new : Option History) (made more : List DevOp) (rs added : List Record) (image : List ℕ) → old ≡ Some h → KeepsOrAdds old new added → new ≡ Some (with_ops h (made ++ more))
+added_one : (h : DeviceHistory) (old new : Option DeviceHistory) (made more : List DevOp) (rs added : List Record) (image : List ℕ) → old ≡ Some h → KeepsOrAdds old new added → new ≡ Some (with_ops h (made ++ more))
     → disk h ≡ settled (content h) → HoldsRecords (content h) rs → IsImage (disk_after made (disk h)) image → HoldsRecords image rs ⊎ HoldsRecords image (rs ++ added)
 added_one h old new made more rs added image told keeps tells quiet held left =
-    let k = subst (λ (t : Option History). KeepsOrAdds t new added) told keeps in
+    let k = subst (λ (t : Option DeviceHistory). KeepsOrAdds t new added) told keeps in
     left_so (λ i. HoldsRecords i rs ⊎ HoldsRecords i (rs ++ added)) h k.0 made more new image k.1 tells (k.2 quiet rs held) left
 
 -- ---- one call

@@ -27,7 +27,7 @@ use Rattle.run_opening.specs.Opens.{as_groups, first_groups, records_at, with_fi
 use Rattle.run_effects.specs.Groups.{durable, group_behind, groups_of, waiting}
 use Rattle.run_effects.specs.Laws.{GroupsAreDurable}
 use Rattle.record_log.specs.snap_outside.declared.devices.DevOp.{DevOp}
-use Rattle.record_log.specs.snap_outside.Disk.{History, IsImage, content, disk, disk_after, settled}
+use Rattle.record_log.specs.snap_outside.Disk.{DeviceHistory, IsImage, content, disk, disk_after, settled}
 use Rattle.record_log.specs.txn_records.declared.records.Record.{Record}
 use Rattle.run_effects.specs.Made.{IsMade}
 use Rattle.run_recovery.specs.Crashes.{CrashOn, begun_on, earlier}
@@ -67,7 +67,7 @@ may_begin : (end : ℕ) (groups : List (List Record)) (tried : Option (List Reco
 may_begin end groups None made may t = may
 may_begin end groups (Some group) made may t = may_more end groups group may t.0
 
-grew_may : (h : History) (new : Option History) (end : ℕ) (groups : List (List Record)) (tried : Option (List Record)) → GrewBy (Some h) new end groups tried → MayAppendGroups end (begun_groups groups tried)
+grew_may : (h : DeviceHistory) (new : Option DeviceHistory) (end : ℕ) (groups : List (List Record)) (tried : Option (List Record)) → GrewBy (Some h) new end groups tried → MayAppendGroups end (begun_groups groups tried)
 grew_may h new end groups tried grew = let g = grew.1 in may_begin end groups tried g.begun g.may g.last
 
 -- ---- one log
@@ -107,7 +107,7 @@ cut_by w es m l failed before image begun (group ∷ later) waits next (inr more
 -- what a crash at a moment of a run tells of a log of it
 abbrev CrashAt : (r : TheRun) → MomentOf r → (ℕ → List ℕ) → (ℕ → List DevOp) → (l : ℕ) → l < r.work.logs → Type 0
 CrashAt r m images made l lt =
-    (h : History) × ((device_at r.before l).told ≡ Some h) × (disk h ≡ settled (content h))
+    (h : DeviceHistory) × ((device_at r.before l).told ≡ Some h) × (disk h ≡ settled (content h))
     × IsMade m l (content h) (r.devices.each l lt).end (first_groups l r.devices.added) (begun_on r l) (made l)
     × IsImage (disk_after (made l) (disk h)) (images l)
 
@@ -140,7 +140,7 @@ cut_at r m images keeps synced run crash l lt =
     c : CrashAt r m images crash.made l lt
     c = crash.each l lt
 
-    h : History
+    h : DeviceHistory
     h = c.0
 
     made : IsMade m l (content h) here.end first (begun_on r l) (crash.made l)

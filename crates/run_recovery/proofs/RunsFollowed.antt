@@ -13,7 +13,7 @@ use Rattle.protocol.specs.Schedule.{Draw, pick, Follows}
 use Rattle.protocol_schedule.specs.Draw.{draw_of}
 use Rattle.snap_recover.specs.declared.openings.Opening.{Opening}
 use Rattle.snap_work.specs.Works.{Work}
-use Rattle.run_recovery.specs.Runs.{HasRun, GoesOnWith, machine_of}
+use Rattle.run_recovery.specs.Runs.{HasRunWork, GoesOnWith, machine_of}
 use Rattle.run_recovery.specs.Schedules.{Schedule, seeded, free, IsTakenBy}
 
 found_at : (all : List Event) (n : ℕ) (e : Event) → slice_get all n ≡ Some e → Contains all e
@@ -31,7 +31,7 @@ taken_run w free es run = run
 
 -- ---- what a seed takes, workers may take
 
-pub freed : (w : Work) (seed : ℕ) (o : Opening) (es : List Event) (failed : ℕ → Bool) (before after : List Device) → HasRun w (seeded seed) o es failed before after → HasRun w free o es failed before after
+pub freed : (w : Work) (seed : ℕ) (o : Opening) (es : List Event) (failed : ℕ → Bool) (before after : List Device) → HasRunWork w (seeded seed) o es failed before after → HasRunWork w free o es failed before after
 freed w seed o es failed before after run = record { room = run.room; front = taken_run (machine_of w o) (seeded seed) es run.front; devices = run.devices }
 
 last_allowed : {C : Type 0} (w : Fixed C) (es : List Event) (e : Event) (s : Machine C) → EachAllowed w (es ++ e ∷ []) s → IsAllowed w e (state_after w es s)

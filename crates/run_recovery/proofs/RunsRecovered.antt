@@ -30,7 +30,7 @@ use Rattle.snap_work.specs.Works.{Work}
 use Rattle.run_recovery.specs.Crashes.{CrashOn, Recovers, earlier}
 use Rattle.run_recovery.specs.EachRun.{AfterEachRun, OfEachRun}
 use Rattle.run_recovery.specs.OneRun.{TheRun, MomentOf, machine_in, reached_at, the_run}
-use Rattle.run_recovery.specs.Runs.{AreRunDevices, HasRun, machine_of, text_of}
+use Rattle.run_recovery.specs.Runs.{AreRunDevices, HasRunWork, machine_of, text_of}
 use Rattle.run_recovery.specs.Schedules.{Schedule}
 use Rattle.run_recovery.proofs.BegunTexts.{BegunRecovered, begins_with, earlier_recovers, starts_with_as_many, text_begins}
 use Rattle.run_recovery.proofs.LogsLeft.{HoldsCut, IsCutTo, cut_at, cut_synced, first_long, grown_at}
@@ -38,10 +38,10 @@ use Rattle.run_recovery.proofs.RunsFollowed.{taken_run}
 
 -- ---- a run of the machine
 
-is_run : (w : Work) (schedule : Schedule) (o : Opening) (es : List machine.Event) (failed : ℕ → Bool) (before after : List Device) → HasRun w schedule o es failed before after → IsRun (machine_of w o) es
+is_run : (w : Work) (schedule : Schedule) (o : Opening) (es : List machine.Event) (failed : ℕ → Bool) (before after : List Device) → HasRunWork w schedule o es failed before after → IsRun (machine_of w o) es
 is_run w schedule o es failed before after run = taken_run (machine_of w o) schedule es run.front
 
-is_text : (w : Work) (schedule : Schedule) (o : Opening) (es : List machine.Event) (failed : ℕ → Bool) (before after : List Device) → KeepsLimits w → HasRun w schedule o es failed before after → IsTextOf w.program (text_of w o)
+is_text : (w : Work) (schedule : Schedule) (o : Opening) (es : List machine.Event) (failed : ℕ → Bool) (before after : List Device) → KeepsLimits w → HasRunWork w schedule o es failed before after → IsTextOf w.program (text_of w o)
 is_text w schedule o es failed before after kept run = text_begins w o kept run.room (starts_with_as_many run.devices.records w.states o run.devices.added run.devices.start)
 
 -- what holds of every run of the program's texts holds of each run of a work of it
@@ -80,7 +80,7 @@ picked r m images keeps synced run crash l = by (nat_lt l r.work.logs) refl
       record { cut = cut_synced (machine_in r) r.events m l; holds = λ lt. absurd (true≢false (sym (lt-ltb l r.work.logs lt) ∙ e)) },
     )
 
-run_recovers : (w : Work) (schedule : Schedule) (o : Opening) (es : List machine.Event) (failed : ℕ → Bool) (before after : List Device) → Laws w.program → KeepsLimits w → (run : HasRun w schedule o es failed before after)
+run_recovers : (w : Work) (schedule : Schedule) (o : Opening) (es : List machine.Event) (failed : ℕ → Bool) (before after : List Device) → Laws w.program → KeepsLimits w → (run : HasRunWork w schedule o es failed before after)
     → (m : MomentOf (the_run run)) (images : ℕ → List ℕ) → CrashOn (the_run run) m images → Recovers w.program (the_run run) m images
 run_recovers w schedule o es failed before after laws limits run m images crash = record {
   kept = kept;
@@ -125,6 +125,6 @@ run_recovers w schedule o es failed before after laws limits run m images crash 
     recovered = earlier_recovers laws.begun devices.records w.states o devices.added (rw devices.as_many limits.logs.0) devices.start
 
 pub recovers : (p : List CheckedMethod) → Laws p → (w : Work) (schedule : Schedule) (o : Opening) (es : List machine.Event) (failed : ℕ → Bool) (before after : List Device) → w.program ≡ p → KeepsLimits w
-    → (run : HasRun w schedule o es failed before after) → (m : MomentOf (the_run run)) (images : ℕ → List ℕ) → CrashOn (the_run run) m images → Recovers p (the_run run) m images
+    → (run : HasRunWork w schedule o es failed before after) → (m : MomentOf (the_run run)) (images : ℕ → List ℕ) → CrashOn (the_run run) m images → Recovers p (the_run run) m images
 recovers p laws w schedule o es failed before after e limits run m images crash =
     subst (λ q. Recovers q (the_run run) m images) e (run_recovers w schedule o es failed before after (subst Laws (sym e) laws) limits run m images crash)

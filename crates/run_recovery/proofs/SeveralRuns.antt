@@ -19,7 +19,7 @@ use Rattle.run_opening.specs.Opens.{records_at}
 use Rattle.run_opening.specs.Starts.{IsStart, first_record}
 use Rattle.snap_base.specs.declared.transactions.State.{State}
 use Rattle.snap_base.proofs.Lists.{each_at}
-use Rattle.record_log.specs.snap_outside.Disk.{History, content}
+use Rattle.record_log.specs.snap_outside.Disk.{DeviceHistory, content}
 use Rattle.snap_recover.specs.declared.openings.Kept.{Kept}
 use Rattle.snap_recover.specs.declared.openings.Opening.{Opening}
 use Rattle.snap_work.specs.Kept.{KeepsLimits}
@@ -29,7 +29,7 @@ use Rattle.run_recovery.specs.Beginnings.{BeginsAgain, CrashBefore, HoldEach, Ke
 use Rattle.run_recovery.specs.Crashes.{CrashOn, Recovers}
 use Rattle.run_recovery.specs.Next.{GoesOnFrom, opening_left, records_left}
 use Rattle.run_recovery.specs.OneRun.{TheRun, MomentOf, the_run}
-use Rattle.run_recovery.specs.Runs.{HasRun, machine_of}
+use Rattle.run_recovery.specs.Runs.{HasRunWork, machine_of}
 use Rattle.run_recovery.specs.Schedules.{Schedule}
 use Rattle.run_recovery.specs.Several.{AddsMembers, BeganOn, Crash, CutOff, EachIsBehind, Early, FindsRunsLogs, GoOn, IsBehindCutOff, Left, LeftBy, OfNext, ValuesStand, Within, added_by, bytes_left}
 use Rattle.run_recovery.specs.Unbegun.{AreKept}
@@ -46,7 +46,7 @@ among P xs x all c = subst P c.2 (each_at P xs c.0 x c.1 all)
 
 -- what the law runs_are_recovered says of the program
 abbrev pub AreRecovered : List CheckedMethod → Type 0
-AreRecovered p = (w : Work) (schedule : Schedule) (o : Opening) (es : List machine.Event) (failed : ℕ → Bool) (before after : List Device) → w.program ≡ p → KeepsLimits w → (run : HasRun w schedule o es failed before after)
+AreRecovered p = (w : Work) (schedule : Schedule) (o : Opening) (es : List machine.Event) (failed : ℕ → Bool) (before after : List Device) → w.program ≡ p → KeepsLimits w → (run : HasRunWork w schedule o es failed before after)
     → (m : MomentOf (the_run run)) (images : ℕ → List ℕ) → CrashOn (the_run run) m images → Recovers p (the_run run) m images
 
 -- and what those say that speak of no program
@@ -152,8 +152,8 @@ same_lists_at (x ∷ xs) [] e same = absurd (omega (arith, e))
 same_lists_at (x ∷ xs) (y ∷ ys) e same =
     ap (λ (z : List Record). z ∷ xs) (same 0 (omega arith)) ∙ ap (λ (zs : List (List Record)). y ∷ zs) (same_lists_at xs ys (omega (arith, e)) (λ l lt. same (suc l) (omega (arith, lt))))
 
-held_there : (d : Device) (h : History) (image : List ℕ) (rs : List Record) → d.told ≡ Some h → content h ≡ image → DeviceHolds d rs → HoldsRecords image rs
-held_there d h image rs told is held = subst (λ (bytes : List ℕ). HoldsRecords bytes rs) is (subst (λ (t : Option History). IfSome t (λ h. HoldsRecords (content h) rs)) told held)
+held_there : (d : Device) (h : DeviceHistory) (image : List ℕ) (rs : List Record) → d.told ≡ Some h → content h ≡ image → DeviceHolds d rs → HoldsRecords image rs
+held_there d h image rs told is held = subst (λ (bytes : List ℕ). HoldsRecords bytes rs) is (subst (λ (t : Option DeviceHistory). IfSome t (λ h. HoldsRecords (content h) rs)) told held)
 
 start_begins : (logs : List (List Record)) (states : List State) (o : Opening) (added : List Record) → IsStart logs states o added → Begins logs states o
 start_begins logs states o added (inl new) = inl (new.0, new.1)

@@ -11,19 +11,19 @@ use Rattle.run_opening.specs.Starts.{first_record}
 use Rattle.run_recovery.specs.OneRun.{TheRun}
 use Rattle.snap_base.specs.declared.transactions.State.{State}
 use Rattle.record_log.specs.snap_outside.declared.devices.DevOp.{DevOp}
-use Rattle.record_log.specs.snap_outside.Disk.{History, content, disk, disk_after, settled, IsImage}
+use Rattle.record_log.specs.snap_outside.Disk.{DeviceHistory, content, disk, disk_after, settled, IsImage}
 use Rattle.record_log.specs.txn_records.declared.records.Record.{Record}
 
 -- these are made, from the first on
-abbrev pub IsFront : List DevOp → List DevOp → Type 0
-IsFront made ops = (left : List DevOp) × (ops ≡ made ++ left)
+abbrev pub AreMadeFirst : List DevOp → List DevOp → Type 0
+AreMadeFirst made ops = (left : List DevOp) × (ops ≡ made ++ left)
 
 -- A crash while the run begins: of the operations of opening, of an upgrade where the log was of format 1, and of the groups before
 -- the run a front is made on each log, and these bytes are left. The devices told what they held before, and it was durable.
 pub record CrashBefore (r : TheRun) (images : ℕ → List ℕ) : Type 0 where
   pub made : ℕ → List DevOp
-  pub each : (l : ℕ) (lt : l < r.work.logs) → (h : History) × ((device_at r.before l).told ≡ Some h) × (disk h ≡ settled (content h))
-      × IsFront (made l) (beginning_ops (content h) ++ groups_ops (r.devices.each l lt).end (first_groups l r.devices.added))
+  pub each : (l : ℕ) (lt : l < r.work.logs) → (h : DeviceHistory) × ((device_at r.before l).told ≡ Some h) × (disk h ≡ settled (content h))
+      × AreMadeFirst (made l) (beginning_ops (content h) ++ groups_ops (r.devices.each l lt).end (first_groups l r.devices.added))
       × IsImage (disk_after (made l) (disk h)) (images l)
 
 -- these records are the same as those; or, only where these are none, log 0 has Genesis alone

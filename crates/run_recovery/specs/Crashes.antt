@@ -15,7 +15,7 @@ use Rattle.run_effects.specs.Groups.{groups_of, group_behind}
 use Rattle.run_effects.specs.Made.{IsMade}
 use Rattle.run_recovery.specs.OneRun.{TheRun, MomentOf, alone_in, history_at, machine_in, reached_at}
 use Rattle.record_log.specs.snap_outside.declared.devices.DevOp.{DevOp}
-use Rattle.record_log.specs.snap_outside.Disk.{History, content, disk, disk_after, settled, IsImage}
+use Rattle.record_log.specs.snap_outside.Disk.{DeviceHistory, content, disk, disk_after, settled, IsImage}
 use Rattle.record_log.specs.txn_records.declared.records.Record.{Record}
 
 -- ---- a moment, on the devices
@@ -29,7 +29,7 @@ begun_on r l =
 -- held before, and it was durable.
 pub record CrashOn (r : TheRun) (m : MomentOf r) (images : ℕ → List ℕ) : Type 0 where
   pub made : ℕ → List DevOp
-  pub each : (l : ℕ) (lt : l < r.work.logs) → (h : History) × ((device_at r.before l).told ≡ Some h) × (disk h ≡ settled (content h))
+  pub each : (l : ℕ) (lt : l < r.work.logs) → (h : DeviceHistory) × ((device_at r.before l).told ≡ Some h) × (disk h ≡ settled (content h))
       × IsMade m l (content h) (r.devices.each l lt).end (first_groups l r.devices.added) (begun_on r l) (made l)
       × IsImage (disk_after (made l) (disk h)) (images l)
 

@@ -10,7 +10,7 @@ use Rattle.protocol.specs.Fixed.{Fixed}
 use Rattle.protocol.specs.History.{History, history}
 use Rattle.protocol.specs.Parts.{Machine}
 use Rattle.protocol.specs.Runs.{reached}
-use Rattle.run_recovery.specs.Runs.{HasRun, machine_of, text_of}
+use Rattle.run_recovery.specs.Runs.{HasRunWork, machine_of, text_of}
 use Rattle.run_recovery.specs.Schedules.{Schedule}
 use Rattle.snap_base.specs.declared.transactions.State.{State}
 use Rattle.snap_recover.specs.declared.openings.Opening.{Opening}
@@ -22,7 +22,7 @@ use Rattle.snap_work.specs.Works.{Work}
 abbrev pub OfEachRun : List CheckedMethod → (Fixed Rest → (Rest → List State → Alone) → List machine.Event → Type 0) → Type 0
 OfEachRun p P =
     (w : Work) (schedule : Schedule) (o : Opening) (es : List machine.Event) (failed : ℕ → Bool) (before after : List Device) → w.program ≡ p → KeepsLimits w
-    → HasRun w schedule o es failed before after → P (machine_of w o) (finish_of p (text_of w o)) es
+    → HasRunWork w schedule o es failed before after → P (machine_of w o) (finish_of p (text_of w o)) es
 
 -- Of every run of a work of this program, within its limits, P holds: of the machine, of what becomes of a control alone, and of the
 -- state that the run reached and its history.

@@ -11,7 +11,7 @@ use Rattle.protocol.specs.History.{History, history}
 use Rattle.protocol.specs.Moments.{Moment}
 use Rattle.protocol.specs.Parts.{Machine}
 use Rattle.protocol.specs.Runs.{reached}
-use Rattle.run_recovery.specs.Runs.{AreRunDevices, HasRun, machine_of, text_of}
+use Rattle.run_recovery.specs.Runs.{AreRunDevices, HasRunWork, machine_of, text_of}
 use Rattle.run_recovery.specs.Schedules.{Schedule}
 use Rattle.snap_base.specs.declared.transactions.State.{State}
 use Rattle.snap_recover.specs.declared.openings.Opening.{Opening}
@@ -29,7 +29,7 @@ pub record TheRun : Type 0 where
   pub devices : AreRunDevices work opening events failed before after
 
 -- a run by any schedule
-abbrev pub the_run : {w : Work} {schedule : Schedule} {o : Opening} {es : List machine.Event} {failed : ℕ → Bool} {before after : List Device} → HasRun w schedule o es failed before after → TheRun
+abbrev pub the_run : {w : Work} {schedule : Schedule} {o : Opening} {es : List machine.Event} {failed : ℕ → Bool} {before after : List Device} → HasRunWork w schedule o es failed before after → TheRun
 the_run {w} {schedule} {o} {es} {failed} {before} {after} run = record {
   work = w;
   opening = o;

@@ -4,7 +4,7 @@ use Rattle.std.specs.List.{AllZip}
 use Rattle.run_opening.specs.log_opening.Devices.{Device, device_at}
 use Rattle.run_opening.specs.log_opening.Kept.{IsSaid}
 use Rattle.run_opening.specs.Opens.{TellsRecords}
-use Rattle.record_log.specs.snap_outside.Disk.{History, content}
+use Rattle.record_log.specs.snap_outside.Disk.{DeviceHistory, content}
 use Rattle.snap_recover.specs.declared.openings.Opening.{Opening}
 use Rattle.snap_recover.specs.Opening.{IsRecovered}
 use Rattle.record_log.specs.txn_records.declared.records.Record.{Record}
@@ -18,4 +18,4 @@ pub record AreRecoverable (devices : List Device) (logs : List (List Record)) (o
 
 -- the devices of so many logs tell these bytes
 abbrev pub TellBytes : ℕ → List Device → (ℕ → List ℕ) → Type 0
-TellBytes logs devices images = (l : ℕ) → l < logs → (h : History) × ((device_at devices l).told ≡ Some h) × (content h ≡ images l)
+TellBytes logs devices images = (l : ℕ) → l < logs → (h : DeviceHistory) × ((device_at devices l).told ≡ Some h) × (content h ≡ images l)

@@ -18,7 +18,7 @@ use Rattle.run_opening.specs.Opens.{HasRoomToBegin, first_groups, records_at}
 use Rattle.run_opening.specs.Starts.{IsStart}
 use Rattle.run_effects.specs.Groups.{groups_of, group_behind}
 use Rattle.run_recovery.specs.Schedules.{Schedule, seeded, free, IsTakenBy}
-use Rattle.record_log.specs.snap_outside.Disk.{History}
+use Rattle.record_log.specs.snap_outside.Disk.{DeviceHistory}
 use Rattle.snap_recover.specs.declared.openings.Opening.{Opening}
 use Rattle.snap_work.specs.Works.{Work}
 use Rattle.record_log.specs.txn_records.declared.records.Record.{Record}
@@ -41,7 +41,7 @@ pub record IsLeastOf (failed : ℕ → Bool) (log : ℕ) : Type 0 where
 pub record IsRunDevice (before after : Device) (records : List Record) (groups : List (List Record)) (tried : Option (List Record)) : Type 0 where
   pub held : DeviceHolds before records
   pub end : ℕ
-  pub opened : (mid : Option History) × (found : List LogItem) × Opened before.told mid end found
+  pub opened : (mid : Option DeviceHistory) × (found : List LogItem) × Opened before.told mid end found
   pub low : end ≤ FARTHEST_END
   pub grew : GrewBy before.told after.told end groups tried
   pub later : before.faults ≤ after.faults
@@ -60,7 +60,7 @@ pub record AreRunDevices (w : Work) (o : Opening) (es : List machine.Event) (fai
   pub others : drop w.logs after ≡ drop w.logs before
 
 -- A run of the work began with the opening and took these events, by the schedule.
-pub record HasRun (w : Work) (schedule : Schedule) (o : Opening) (es : List machine.Event) (failed : ℕ → Bool) (before after : List Device) : Type 0 where
+pub record HasRunWork (w : Work) (schedule : Schedule) (o : Opening) (es : List machine.Event) (failed : ℕ → Bool) (before after : List Device) : Type 0 where
   pub room : HasRoomToBegin o
   pub front : IsTakenBy (machine_of w o) schedule es
   pub devices : AreRunDevices w o es failed before after

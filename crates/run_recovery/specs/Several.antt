@@ -14,7 +14,7 @@ use Rattle.run_recovery.specs.Crashes.{CrashOn, Recovers}
 use Rattle.run_recovery.specs.Next.{GoesOnFrom, opening_left, records_left}
 use Rattle.run_recovery.specs.OneRun.{TheRun, MomentOf, the_run}
 use Rattle.run_recovery.specs.Recoverable.{TellBytes}
-use Rattle.run_recovery.specs.Runs.{HasRun, machine_of}
+use Rattle.run_recovery.specs.Runs.{HasRunWork, machine_of}
 use Rattle.run_recovery.specs.Schedules.{Schedule}
 use Rattle.run_recovery.specs.Unbegun.{AreUnbegun, left_last}
 use Rattle.snap_recover.specs.declared.openings.Kept.{Kept}
@@ -41,7 +41,7 @@ pub record CutOff : Type 0 where
   pub before : List Device
   pub after : List Device
   pub limits : KeepsLimits work
-  pub run : HasRun work schedule opening events failed before after
+  pub run : HasRunWork work schedule opening events failed before after
   pub images : ℕ → List ℕ
   pub crash : Crash (the_run run) images
   pub calls : List (ℕ → List ℕ)

@@ -7,7 +7,7 @@ use Rattle.run_opening.specs.Opens.{AreSafe}
 use Rattle.run_recovery.specs.Beginnings.{HoldEach, KeepsOrBegins}
 use Rattle.snap_base.specs.declared.transactions.State.{State}
 use Rattle.record_log.specs.snap_outside.declared.devices.DevOp.{DevOp}
-use Rattle.record_log.specs.snap_outside.Disk.{History, content, disk, disk_after, settled, with_ops, IsImage}
+use Rattle.record_log.specs.snap_outside.Disk.{DeviceHistory, content, disk, disk_after, settled, with_ops, IsImage}
 use Rattle.snap_recover.specs.declared.openings.Opening.{Opening}
 use Rattle.record_log.specs.txn_records.declared.records.Record.{Record}
 
@@ -21,7 +21,7 @@ pub record IsUnbegun (logs : ℕ) (states : List State) (found left : ℕ → Li
   pub before : List Device
   pub after : List Device
   pub safe : AreSafe logs states before after
-  pub each : (l : ℕ) → l < logs → (h : History) × ((device_at before l).told ≡ Some h) × (content h ≡ found l) × (disk h ≡ settled (content h))
+  pub each : (l : ℕ) → l < logs → (h : DeviceHistory) × ((device_at before l).told ≡ Some h) × (content h ≡ found l) × (disk h ≡ settled (content h))
       × ((made : List DevOp) × (more : List DevOp) × ((device_at after l).told ≡ Some (with_ops h (made ++ more))) × IsImage (disk_after made (disk h)) (left l))
 
 -- one behind the other: each found the bytes that the one before it left, and left these

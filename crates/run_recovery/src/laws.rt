@@ -19,7 +19,7 @@ ghost use Rattle.run_recovery.specs.EachRun.{AfterEachRun, OfEachRun};
 ghost use Rattle.run_recovery.specs.Next.{GoesOnFrom, opening_left, records_left};
 ghost use Rattle.run_recovery.specs.Recoverable.{AreRecoverable, TellBytes};
 ghost use Rattle.run_recovery.specs.OneRun.{TheRun, MomentOf, the_run};
-ghost use Rattle.run_recovery.specs.Runs.{HasRun, GoesOnWith};
+ghost use Rattle.run_recovery.specs.Runs.{HasRunWork, GoesOnWith};
 ghost use Rattle.run_recovery.specs.Schedules.{Schedule, seeded, free};
 ghost use Rattle.run_recovery.specs.Several.{CutOff, EachIsBehind, FindsRunsLogs, GoOn, OfNext, ValuesStand};
 ghost use Rattle.run_recovery.specs.Stands.{RunStands};
@@ -47,7 +47,7 @@ use snap_recover::{begun_logs_are_recovered, one_opening};
 /// What one thread takes by the schedule of a seed is among what several workers may take, and so is the event with which it goes on.
 pub fn seeds_pick_runs()
     ensures runs { (w : Work) (seed : ℕ) (o : Opening) (es : List machine.Event) (failed : ℕ → Bool) (before after : List Device)
-        → HasRun w (seeded seed) o es failed before after → HasRun w free o es failed before after }
+        → HasRunWork w (seeded seed) o es failed before after → HasRunWork w free o es failed before after }
     ensures next { (w : Work) (seed : ℕ) (o : Opening) (es : List machine.Event) (e : machine.Event) → GoesOnWith w (seeded seed) o es e → GoesOnWith w free o es e }
 {}
 
@@ -80,7 +80,7 @@ pub fn runs_are_as_meant(program: &Checked)
 /// Whatever a crash leaves of the logs at any moment of a run recovers.
 pub fn runs_are_recovered(program: &Checked)
     ensures { (w : Work) (schedule : Schedule) (o : Opening) (es : List machine.Event) (failed : ℕ → Bool) (before after : List Device)
-        → w.program ≡ methods_of program.now → KeepsLimits w → (run : HasRun w schedule o es failed before after)
+        → w.program ≡ methods_of program.now → KeepsLimits w → (run : HasRunWork w schedule o es failed before after)
         → (m : MomentOf (the_run run)) (images : ℕ → List ℕ) → CrashOn (the_run run) m images → Recovers (methods_of program.now) (the_run run) m images }
 {
     logs_recover_to_the_members(program);
@@ -162,7 +162,7 @@ pub fn each_run_finds_logs_as_runs_leave_them()
 /// transactions, of what they are told, and of what a crash leaves while it begins and at any moment of it.
 pub fn runs_stand(program: &Checked)
     ensures { (w : Work) (schedule : Schedule) (o : Opening) (es : List machine.Event) (failed : ℕ → Bool) (before after : List Device)
-        → w.program ≡ methods_of program.now → KeepsLimits w → (run : HasRun w schedule o es failed before after) → RunStands (the_run run) }
+        → w.program ≡ methods_of program.now → KeepsLimits w → (run : HasRunWork w schedule o es failed before after) → RunStands (the_run run) }
 {
     runs_are_as_meant(program);
     runs_are_recovered(program);

@@ -14,13 +14,13 @@ use Rattle.protocol.specs.Fixed.{Fixed}
 use Rattle.protocol.specs.Runs.{reached}
 use Rattle.run_opening.specs.Opens.{IsNoRun, MayOpen}
 use Rattle.run_printing.specs.Printed.{traced_line}
-use Rattle.run_recovery.specs.Runs.{HasRun, meant, machine_of, HasEnded}
+use Rattle.run_recovery.specs.Runs.{HasRunWork, meant, machine_of, HasEnded}
 use Rattle.run_recovery.specs.Schedules.{Schedule, seeded, free}
 use Rattle.run_recovery.specs.OneRun.{the_run}
 use Rattle.run_recovery.specs.Stands.{RunStands}
 use Rattle.run_work.proofs.Ending.{StopsAtFault, untraced_of}
 use Rattle.run_work.specs.Hosts.{LeftFailed, HasHosted}
-use Rattle.run_work.specs.Runs.{Printing, Ran, EachHasReply, HasFailed, IsAnswerOf, LogRose, PrintsFailed, IsOfLogs, printed_of}
+use Rattle.run_work.specs.Runs.{Printing, RunUse, EachHasReply, HasFailed, IsAnswerOf, LogRose, PrintsFailed, IsOfLogs, printed_of}
 use Rattle.run_work.specs.Statuses.{logs_status}
 use Rattle.run_work.specs.Untraced.{IsRunEnd, RunLeft, IsNoBeginning, IsUntraced, IsTraced, EndsUntraced, IsCallEnd}
 use Rattle.run_work.specs.declared.hosts.Hosted.{Hosted}
@@ -46,7 +46,7 @@ no_run_rose count states before after log (inl (inr why, touched)) = absurd why.
 no_run_rose count states before after log (inr (is, fails)) =
     let first : log ≡ 0 = cc in subst (λ (n : ℕ). Rose (device_at before n).faults (device_at after n).faults) (sym first) fails.rose
 
-unbegun_answer : (p : Printing) (r : Ran) (why : LogsNo) → WritesNothing r.trace → IsNoBeginning p r why → IsAnswerOf p r (logs_status why)
+unbegun_answer : (p : Printing) (r : RunUse) (why : LogsNo) → WritesNothing r.trace → IsNoBeginning p r why → IsAnswerOf p r (logs_status why)
 unbegun_answer p r (ending.Refused log offset cause) nothing none = ((none.kept, none.none.none, nothing, none.none.safe), none.told)
 unbegun_answer p r (ending.Device log) nothing none =
     (no_run_rose r.work.logs r.work.states r.devices_before r.devices_after log none.none.none, inl ((none.kept, none.none.none, nothing, none.none.safe), none.told))
@@ -57,30 +57,30 @@ whole_lines : (t : Writing) (kept : List Event) → Writes t (trace_of kept) →
 whole_lines t kept whole = inl (kept, [], sym (append-nil kept), whole)
 
 -- what the laws say of each run that the call may have made
-abbrev pub EachStands : Ran → Type 0
-EachStands r = (o : Opening) (failed : ℕ → Bool) (run : HasRun r.work r.schedule o (meant r.kept) failed r.devices_before r.devices_after) → RunStands (the_run run)
+abbrev pub EachStands : RunUse → Type 0
+EachStands r = (o : Opening) (failed : ℕ → Bool) (run : HasRunWork r.work r.schedule o (meant r.kept) failed r.devices_before r.devices_after) → RunStands (the_run run)
 
 -- what the law marks_are_replies says
 abbrev pub MarksAreReplies : Type 0
 MarksAreReplies = (m : Fixed Rest) (es : List machine.Event) → list_all (λ r. r) (reached m es).desk.replied ≡ true → EachHasReply (length m.text.txs) es
 
 -- where a run has ended, each transaction has its Reply
-all_replied : (r : Ran) → EachStands r → MarksAreReplies → (o : Opening) (failed : ℕ → Bool) → HasRun r.work r.schedule o (meant r.kept) failed r.devices_before r.devices_after
+all_replied : (r : RunUse) → EachStands r → MarksAreReplies → (o : Opening) (failed : ℕ → Bool) → HasRunWork r.work r.schedule o (meant r.kept) failed r.devices_before r.devices_after
     → HasEnded r.work o (meant r.kept) → EachHasReply (length r.work.txs) (meant r.kept)
 all_replied r stands marks o failed run ended = marks (machine_of r.work o) (meant r.kept) ((stands o failed run).answered ended).0.replied
 
 -- the log that the status names is one of the work's, and its count rose
-rose_there : (r : Ran) (o : Opening) (schedule : Schedule) (log : ℕ) → LeftFailed (RunLeft r o) r.work schedule o (meant r.kept) log → (log < r.work.logs) × LogRose r log
+rose_there : (r : RunUse) (o : Opening) (schedule : Schedule) (log : ℕ) → LeftFailed (RunLeft r o) r.work schedule o (meant r.kept) log → (log < r.work.logs) × LogRose r log
 rose_there r o (seeded seed) log left = left.0.rose log (eq-eqb log log refl)
 rose_there r o free log left = left.2.rose log left.1.is
 
-failed_answer : (r : Ran) → EachStands r → (o : Opening) (schedule : Schedule) (log : ℕ) → WritesLines traced_line r.trace [] r.kept
+failed_answer : (r : RunUse) → EachStands r → (o : Opening) (schedule : Schedule) (log : ℕ) → WritesLines traced_line r.trace [] r.kept
     → LeftFailed (RunLeft r o) r.work schedule o (meant r.kept) log → (P : Opening → List machine.Event → Type 0) → P o (meant r.kept) → HasFailed r schedule log P
 failed_answer r stands o (seeded seed) log front left P printed = (o, left.0.run, stands o (only_failed log) left.0.run, (left.1, printed), front)
 failed_answer r stands o free log front left P printed =
     (left.0, left.1, (o, left.2.run, stands o left.0 left.2.run, (λ l is. ((left.2.rose l is).0, (left.2.rose l is).1, left.3 l is), printed), front))
 
-begun_answer : (p : Printing) (r : Ran) → EachStands r → MarksAreReplies → (o : Opening) (s : Status) → WritesLines traced_line r.trace [] r.kept → (s ≡ status.Done → Writes r.trace (trace_of r.kept))
+begun_answer : (p : Printing) (r : RunUse) → EachStands r → MarksAreReplies → (o : Opening) (s : Status) → WritesLines traced_line r.trace [] r.kept → (s ≡ status.Done → Writes r.trace (trace_of r.kept))
     → IsRunEnd (RunLeft r o) (printed_of p r o (meant r.kept)) s → IsAnswerOf p r s
 begun_answer p r stands marks o status.Done front whole end = ((o, end.0.run, stands o none_failed end.0.run, ((end.1, all_replied r stands marks o none_failed end.0.run end.1), end.2), front), whole refl)
 begun_answer p r stands marks o (status.Usage place) front whole end = end
@@ -94,10 +94,10 @@ begun_answer p r stands marks o status.OutFault front whole end = (end.1, (o, en
 begun_answer p r stands marks o status.TraceFault front whole end = absurd end
 
 -- where nothing is kept nothing is traced
-abbrev Unwritten : Ran → Type 0
+abbrev Unwritten : RunUse → Type 0
 Unwritten r = r.kept ≡ [] → WritesNothing r.trace
 
-same_answer : (p : Printing) (r : Ran) → EachStands r → MarksAreReplies → (before after : Status) → Unwritten r → IsUntraced p r before → after ≡ before → WritesLines traced_line r.trace [] r.kept
+same_answer : (p : Printing) (r : RunUse) → EachStands r → MarksAreReplies → (before after : Status) → Unwritten r → IsUntraced p r before → after ≡ before → WritesLines traced_line r.trace [] r.kept
     → (before ≡ status.Done → Writes r.trace (trace_of r.kept)) → IsAnswerOf p r after
 same_answer p r stands marks before after nothing (inl (why, none, is)) same front whole =
     subst (λ (t : Status). IsAnswerOf p r t) (sym (same ∙ is)) (unbegun_answer p r why (nothing none.kept) none)
@@ -105,7 +105,7 @@ same_answer p r stands marks before after nothing (inr (o, end)) same front whol
     subst (λ (t : Status). IsAnswerOf p r t) (sym same) (begun_answer p r stands marks o before front whole end)
 
 -- all was done, but for the trace
-done_but_traced : (p : Printing) (r : Ran) → EachStands r → MarksAreReplies → (after : Status) → IsUntraced p r status.Done → WritesLines traced_line r.trace [] r.kept
+done_but_traced : (p : Printing) (r : RunUse) → EachStands r → MarksAreReplies → (after : Status) → IsUntraced p r status.Done → WritesLines traced_line r.trace [] r.kept
     → (after ≡ status.Memory) ⊎ ((after ≡ status.TraceFault) × Rose r.trace.faults_before r.trace.faults_after) → IsAnswerOf p r after
 done_but_traced p r stands marks after (inl (why, none, is)) front then = absurd (never why is)
   where
@@ -129,7 +129,7 @@ is_done (status.LogFault log) = inr (λ e. cc)
 is_done status.OutFault = inr (λ e. cc)
 is_done status.TraceFault = inr (λ e. cc)
 
-answered : (p : Printing) (r : Ran) → EachStands r → MarksAreReplies → (before after : Status) → (r.kept ≡ [] → WritesNothing r.trace) → IsUntraced p r before → IsTraced r.trace r.kept before after → IsAnswerOf p r after
+answered : (p : Printing) (r : RunUse) → EachStands r → MarksAreReplies → (before after : Status) → (r.kept ≡ [] → WritesNothing r.trace) → IsUntraced p r before → IsTraced r.trace r.kept before after → IsAnswerOf p r after
 answered p r stands marks before after nothing run (inl (same, whole)) = same_answer p r stands marks before after nothing run same (whole_lines r.trace r.kept whole) (λ _. whole)
 answered p r stands marks before after nothing run (inr (front, other, done)) = elim (is_done before) [
   | inl is ↦ done_but_traced p r stands marks after (subst (λ (t : Status). IsUntraced p r t) is run) front (done is)
@@ -139,7 +139,7 @@ answered p r stands marks before after nothing run (inr (front, other, done)) = 
 -- ---- what stands in the way
 
 -- a log on which a run begins is not refused, and where none fails no log ends the run
-begun_not_of_logs : (p : Printing) (r : Ran) (records : List (List Record)) (first : Opening) → MayOpen r.work.logs r.work.states r.devices_before r.devices_after records first
+begun_not_of_logs : (p : Printing) (r : RunUse) (records : List (List Record)) (first : Opening) → MayOpen r.work.logs r.work.states r.devices_before r.devices_after records first
     → (o : Opening) (s : Status) → IsRunEnd (RunLeft r o) (printed_of p r o (meant r.kept)) s → ¬ IsOfLogs s
 begun_not_of_logs p r records first may o status.Done end of = of
 begun_not_of_logs p r records first may o (status.Usage place) end of = of
@@ -156,7 +156,7 @@ unbegun_not_of_logs : (why : LogsNo) (s : Status) → s ≡ logs_status why → 
 unbegun_not_of_logs why s is memory of =
     let told : s ≡ status.Memory = is ∙ ap (λ (x : LogsNo). logs_status x) memory in subst (λ (x : Status). IsOfLogs x) told of
 
-untraced_not_of_logs : (p : Printing) (r : Ran) (records : List (List Record)) (first : Opening) → MayOpen r.work.logs r.work.states r.devices_before r.devices_after records first
+untraced_not_of_logs : (p : Printing) (r : RunUse) (records : List (List Record)) (first : Opening) → MayOpen r.work.logs r.work.states r.devices_before r.devices_after records first
     → (s : Status) → IsUntraced p r s → ¬ IsOfLogs s
 untraced_not_of_logs p r records first may s (inl (why, none, is)) = unbegun_not_of_logs why s is (none.none.complete records first may)
 untraced_not_of_logs p r records first may s (inr (o, end)) = begun_not_of_logs p r records first may o s end
@@ -181,7 +181,7 @@ module _
     (many : count ≡ length w.txs) (hosted : HasHosted p w schedule before after (writing_of tells first then) ran)
     (end : IsCallEnd p ran count events (writing_of tells then last) trace s) (silent : StopsAtFault p ran (last ≡ then))
   where
-    abbrev run_of : Ran
+    abbrev run_of : RunUse
     run_of = record { work = w; schedule = schedule; kept = events; devices_before = before; devices_after = after; out = writing_of tells first last; trace = trace }
 
     nothing_behind : (r : Result Hosted LogsNo) → StopsAtFault p r (last ≡ then) → StopsAtFault p r (WritesNothing (writing_of tells then last))

@@ -11,8 +11,8 @@ use Rattle.run_printing.specs.Printed.{unsure_line}
 use Rattle.run_recovery.specs.Runs.{machine_of, meant}
 use Rattle.run_recovery.specs.Schedules.{Schedule, seeded, free}
 use Rattle.run_work.proofs.RunDevices.{rose_earlier}
-use Rattle.run_work.specs.Hosts.{HasLeft, IsHostEnd, PrintsStopped, PrintsUnlessFailed, StopsSo, IsHosted, HasHosted}
-use Rattle.run_work.specs.Runs.{Printing, reporting, summing, replies_by, ending_by, unsure_by, Ran, PrintsNext, PrintsFailed, PrintsUnsure, TellsUnsure, as_printed}
+use Rattle.run_work.specs.Hosts.{WasRunOnDevices, IsHostEnd, PrintsStopped, PrintsUnlessFailed, StopsSo, IsHosted, HasHosted}
+use Rattle.run_work.specs.Runs.{Printing, reporting, summing, replies_by, ending_by, unsure_by, RunUse, PrintsNext, PrintsFailed, PrintsUnsure, TellsUnsure, as_printed}
 use Rattle.run_work.specs.Untraced.{IsEnding, IsRunEnd, IsToldUnbegun, IsUntraced, IsEndOf, EndsUntraced}
 use Rattle.run_work.specs.declared.hosts.Hosted.{Hosted}
 use Rattle.run_work.specs.Writings.{Writing, WritesNothing, IsSilent, Writes, WritesFront, WritesBehind, WritesLines}
@@ -128,7 +128,7 @@ abbrev pub StopsAtFault : Printing → Result Hosted LogsNo → Type 0 → Type 
 StopsAtFault p ran P = IfOk ran (λ h. StopsSo p h.failed h.stop → h.failed ≡ true → P)
 
 module _ (p : Printing) (w : Work) (schedule : Schedule) (before after : List Device) (a b trace : Writing) (on : GoesOn a b) where
-  abbrev RunOf : List Event → Ran
+  abbrev RunOf : List Event → RunUse
   RunOf events = record { work = w; schedule = schedule; kept = events; devices_before = before; devices_after = after; out = joined a b; trace = trace }
 
   of_hosted : (h : Hosted) (events : List Event) (s : Status) → IsHosted p w schedule before after a h → IsEndOf p h (length w.txs) events b s → (StopsSo p h.failed h.stop → h.failed ≡ true → WritesNothing b)
@@ -138,7 +138,7 @@ module _ (p : Printing) (w : Work) (schedule : Schedule) (before after : List De
       let es = meant h.kept.items in
       subst (λ (kept : List Event). IsUntraced p (RunOf kept) s) (sym end.same) (inr (
         o,
-        ended p (HasLeft w schedule o es before after) w o es schedule a b h.stop s on end.later is.made.ends (tells p w schedule o es a b h.stop h.failed is.made.whole (silent is.made.stops))
+        ended p (WasRunOnDevices w schedule o es before after) w o es schedule a b h.stop s on end.later is.made.ends (tells p w schedule o es a b h.stop h.failed is.made.whole (silent is.made.stops))
             (end.ending (machine_of w o) is.made.core),
       ))
 

@@ -16,7 +16,7 @@ use Rattle.run_opening.specs.record_log.Growth.{GrewBy}
 use Rattle.run_recovery.specs.Runs.{machine_of, meant}
 use Rattle.run_recovery.specs.Schedules.{Schedule, seeded, free, IsTakenBy}
 use Rattle.run_work.specs.declared.hosts.Hosted.{Hosted}
-use Rattle.run_work.specs.Hosts.{HasDriven, HasLeft, LeftFailed, IsStopOf, PrintsStopped, PrintsReplies, PrintsUnlessFailed, StopsSo, IsHostEnd, IsCoreOf, IsMade, IsHosted, HasHosted}
+use Rattle.run_work.specs.Hosts.{HasDriven, WasRunOnDevices, LeftFailed, IsStopOf, PrintsStopped, PrintsReplies, PrintsUnlessFailed, StopsSo, IsHostEnd, IsCoreOf, IsMadeByHost, IsHosted, HasHosted}
 use Rattle.run_work.specs.Runs.{Printing, reporting, summing, replies_by, as_printed}
 use Rattle.run_work.specs.Writings.{Writing, WritesNothing, IsSilent, Writes}
 use Rattle.snap_core.specs.Cores.{CoreState, IsAt}
@@ -181,7 +181,7 @@ unheard Left w schedule o es replies out stop.Memory quiet nothing later h = rec
 
 -- of other logs
 pub made_as : (P Q : (ℕ → Bool) → Type 0) → ((failed : ℕ → Bool) → P failed → Q failed) → (p : Printing) (w : Work) (schedule : Schedule) (o : Opening) (replies : Writing) (h : Hosted)
-    → IsMade p P w schedule o replies h → IsMade p Q w schedule o replies h
+    → IsMadeByHost p P w schedule o replies h → IsMadeByHost p Q w schedule o replies h
 made_as P Q then p w schedule o replies h is = record { ends = left_as P Q then w o (meant h.kept.items) p schedule replies h.stop is.ends; core = is.core; whole = is.whole; stops = is.stops }
 
 -- on all devices, where the replies went where nothing fails
@@ -194,7 +194,7 @@ unheard_host w schedule before after replies out h quiet silent is =
     record {
       opening = is.opening;
       made = record {
-        ends = unheard (HasLeft w schedule is.opening es before after) w schedule is.opening es replies out h.stop quiet nothing (omega (arith, silent.1)) is.made.ends;
+        ends = unheard (WasRunOnDevices w schedule is.opening es before after) w schedule is.opening es replies out h.stop quiet nothing (omega (arith, silent.1)) is.made.ends;
         core = is.made.core;
         whole = λ _. nothing;
         stops = refl;

@@ -9,7 +9,7 @@ use Rattle.run_recovery.specs.Runs.{meant}
 use Rattle.run_recovery.specs.Schedules.{Schedule}
 use Rattle.run_work.proofs.Hosting.{made_as}
 use Rattle.run_work.proofs.RunDevices.{has_left}
-use Rattle.run_work.specs.Hosts.{HasDriven, HasLeft, IsHosted, IsHostedOn, IsWithoutRun}
+use Rattle.run_work.specs.Hosts.{HasDriven, WasRunOnDevices, IsHosted, IsHostedOn, IsWithoutRun}
 use Rattle.run_work.specs.Runs.{Printing}
 use Rattle.run_work.specs.Writings.{Writing}
 use Rattle.run_work.specs.declared.hosts.Hosted.{Hosted}
@@ -25,7 +25,7 @@ hosted_on p w schedule o before after others old new replies h states records ad
     let es = meant h.kept.items in
     record {
       opening = o;
-      made = made_as (HasDriven w schedule o es old new) (HasLeft w schedule o es before after)
+      made = made_as (HasDriven w schedule o es old new) (WasRunOnDevices w schedule o es before after)
           (λ failed driven. has_left w schedule o es failed before after others old new states records added texts opens as_many room driven same rest) p w schedule o replies h is;
     }
 

@@ -8,9 +8,9 @@ use Rattle.run_opening.specs.record_log.Growth.{GrewBy}
 use Rattle.run_opening.specs.Opens.{HasRoomToBegin, OpensRun, IsRunLog, first_groups, records_at}
 use Rattle.run_opening.specs.Starts.{IsStart}
 use Rattle.solo_host.specs.run_effects.Groups.{groups_of, group_behind}
-use Rattle.run_recovery.specs.Runs.{IsRunDevice, HasRun, machine_of}
+use Rattle.run_recovery.specs.Runs.{IsRunDevice, HasRunWork, machine_of}
 use Rattle.run_recovery.specs.Schedules.{Schedule}
-use Rattle.run_work.specs.Hosts.{HasDriven, HasLeft}
+use Rattle.run_work.specs.Hosts.{HasDriven, WasRunOnDevices}
 use Rattle.snap_base.specs.declared.transactions.State.{State}
 use Rattle.snap_outside.specs.Causes.{Rose}
 use Rattle.run_opening.specs.snap_recover.declared.openings.Opening.{Opening}
@@ -74,7 +74,7 @@ module _
     device_is : (l : ℕ) → l < w.logs → device_at after l ≡ as_device (log_at new l)
     device_is l lt = ap (λ (ds : List Device). device_at ds l) same ∙ device_of_log new others l (omega (arith, lt, new_many))
 
-    has_run : HasRun w schedule o es failed before after
+    has_run : HasRunWork w schedule o es failed before after
     has_run = record {
       room = room;
       front = driven.front;
@@ -103,5 +103,5 @@ module _
         )
 
     -- a log that failed is one of the work's, and its device's count tells it
-    pub has_left : HasLeft w schedule o es before after failed
+    pub has_left : WasRunOnDevices w schedule o es before after failed
     has_left = record { run = has_run; rose = λ l is. let x = driven.rose l is in has_risen l x.0 x.1 }

@@ -4,7 +4,7 @@ use Rattle.std.specs.Global.{Vec}
 use Rattle.snap_core.specs.core_events.declared.events.Event.{Event}
 use Rattle.run_opening.specs.log_opening.Devices.{Device, devices_of}
 use Rattle.run_recovery.specs.Schedules.{Schedule}
-use Rattle.run_work.specs.Runs.{Ran}
+use Rattle.run_work.specs.Runs.{RunUse}
 use Rattle.run_work.specs.Writings.{Writing}
 use Rattle.snap_outside.specs.declared.devices.LogDev.{Ghosts as DeviceTells}
 use Rattle.snap_outside.specs.declared.sinks.Sink.{Ghosts as SinkTells}
@@ -44,7 +44,7 @@ abbrev pub written : SinkState → SinkState → Writing
 written before after = record { taken_before = before.taken; taken_after = after.taken; faults_before = before.faults; faults_after = after.faults }
 
 -- a run of this work, by what the call was handed and gave back
-abbrev pub ran_by : {D T : Type 0} → Work → Schedule → CallState D T → CallState D T → List Event → Ran
+abbrev pub ran_by : {D T : Type 0} → Work → Schedule → CallState D T → CallState D T → List Event → RunUse
 ran_by w schedule before after kept = record {
   work = w;
   schedule = schedule;

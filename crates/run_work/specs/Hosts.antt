@@ -11,7 +11,7 @@ use Rattle.protocol.specs.Fixed.{Fixed}
 use Rattle.run_opening.specs.Opens.{AreSafe, IsNoRun, MayOpen}
 use Rattle.solo_host.specs.run_effects.Driven.{IsDriven, tried_on, none_failed, only_failed}
 use Rattle.solo_host.specs.run_effects.Groups.{groups_of, group_behind}
-use Rattle.run_recovery.specs.Runs.{HasRun, machine_of, meant, IsLeastOf, GoesOnWith, HasEnded}
+use Rattle.run_recovery.specs.Runs.{HasRunWork, machine_of, meant, IsLeastOf, GoesOnWith, HasEnded}
 use Rattle.run_recovery.specs.Schedules.{Schedule, seeded, free, IsTakenBy}
 use Rattle.run_work.specs.Runs.{Printing, Printed, reporting, summing, replies_in, PrintsNext, as_printed}
 use Rattle.run_work.specs.Writings.{Writing, IsSilent, Writes}
@@ -37,8 +37,8 @@ pub record HasDriven (w : Work) (schedule : Schedule) (o : Opening) (es : List m
   pub rose : (l : ℕ) → failed l ≡ true → (l < length old) × Rose (log_at old l).faults (log_at new l).faults
 
 -- A run of these events was made on the devices; each that failed tells it.
-pub record HasLeft (w : Work) (schedule : Schedule) (o : Opening) (es : List machine.Event) (before after : List Device) (failed : ℕ → Bool) : Type 0 where
-  pub run : HasRun w schedule o es failed before after
+pub record WasRunOnDevices (w : Work) (schedule : Schedule) (o : Opening) (es : List machine.Event) (before after : List Device) (failed : ℕ → Bool) : Type 0 where
+  pub run : HasRunWork w schedule o es failed before after
   pub rose : (l : ℕ) → failed l ≡ true → (l < w.logs) × Rose (device_at before l).faults (device_at after l).faults
 
 -- ---- how it ends
@@ -97,7 +97,7 @@ StopsSo reporting failed stop.OutFault = failed ≡ true
 StopsSo reporting failed stop.Memory = failed ≡ false
 
 -- What a host made of a work from this opening, where Left tells what it left on its logs, by those that failed.
-pub record IsMade (p : Printing) (Left : (ℕ → Bool) → Type 0) (w : Work) (schedule : Schedule) (o : Opening) (replies : Writing) (h : Hosted) : Type 0 where
+pub record IsMadeByHost (p : Printing) (Left : (ℕ → Bool) → Type 0) (w : Work) (schedule : Schedule) (o : Opening) (replies : Writing) (h : Hosted) : Type 0 where
   pub ends : IsHostEnd Left (as_printed p w schedule o (meant h.kept.items) replies) h.stop
   pub core : IsCoreOf (machine_of w o) (meant h.kept.items) h.stop h.core
   pub whole : PrintsUnlessFailed h.failed (as_printed p w schedule o (meant h.kept.items) replies)
@@ -105,12 +105,12 @@ pub record IsMade (p : Printing) (Left : (ℕ → Bool) → Type 0) (w : Work) (
 
 -- on open logs
 abbrev pub IsHostedOn : Printing → Work → Schedule → Opening → List LogState → List LogState → Writing → Hosted → Type 0
-IsHostedOn p w schedule o old new replies h = IsMade p (HasDriven w schedule o (meant h.kept.items) old new) w schedule o replies h
+IsHostedOn p w schedule o old new replies h = IsMadeByHost p (HasDriven w schedule o (meant h.kept.items) old new) w schedule o replies h
 
 -- on all devices
 pub record IsHosted (p : Printing) (w : Work) (schedule : Schedule) (before after : List Device) (replies : Writing) (h : Hosted) : Type 0 where
   pub opening : Opening
-  pub made : IsMade p (HasLeft w schedule opening (meant h.kept.items) before after) w schedule opening replies h
+  pub made : IsMadeByHost p (WasRunOnDevices w schedule opening (meant h.kept.items) before after) w schedule opening replies h
 
 -- No run began, for this reason, and a crash at any moment loses no record. Where the logs hold records on which a run begins,
 -- and none fails, it is want of memory.

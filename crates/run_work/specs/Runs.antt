@@ -15,7 +15,7 @@ use Rattle.solo_host.specs.run_effects.Lines.{line_in, replies_text, ending_text
 use Rattle.run_printing.specs.Printed.{traced_line, unanswered, unsure_line}
 use Rattle.run_printing.specs.Summed.{summing_text}
 use Rattle.run_recovery.specs.OneRun.{the_run}
-use Rattle.run_recovery.specs.Runs.{machine_of, meant, IsLeastOf, HasRun, GoesOnWith, HasEnded}
+use Rattle.run_recovery.specs.Runs.{machine_of, meant, IsLeastOf, HasRunWork, GoesOnWith, HasEnded}
 use Rattle.run_recovery.specs.Schedules.{Schedule, seeded, free}
 use Rattle.run_recovery.specs.Stands.{RunStands}
 use Rattle.run_work.specs.Writings.{Writing, WritesNothing, Writes, WritesBehind, WritesLines}
@@ -118,7 +118,7 @@ HasAnswered w o es = HasEnded w o es × EachHasReply (length w.txs) es
 -- ---- the answers
 
 -- What a call was given and what it left, of a run of this work by this schedule.
-pub record Ran : Type 0 where
+pub record RunUse : Type 0 where
   pub work : Work
   pub schedule : Schedule
   pub kept : List Event
@@ -128,11 +128,11 @@ pub record Ran : Type 0 where
   pub trace : Writing
 
 -- what was printed of it, where it began with this opening and took these events
-abbrev pub printed_of : Printing → Ran → Opening → List machine.Event → Printed
+abbrev pub printed_of : Printing → RunUse → Opening → List machine.Event → Printed
 printed_of p r o es = as_printed p r.work r.schedule o es r.out
 
 -- no run began, for this reason; nothing was traced; and a crash at any moment of the call loses no record
-abbrev pub HasNotBegun : Ran → LogsNo → Type 0
+abbrev pub HasNotBegun : RunUse → LogsNo → Type 0
 HasNotBegun r why =
     (r.kept ≡ []) × IsNoRun r.work.logs r.work.states r.devices_before r.devices_after why × WritesNothing r.trace
     × AreSafe r.work.logs r.work.states r.devices_before r.devices_after
@@ -140,25 +140,25 @@ HasNotBegun r why =
 -- A run began, and what the laws of the machine say of it holds: of its committed transactions, of what they are told, and of
 -- what a crash leaves at any moment of it. P holds of what it began with and of its events. Its trace is written, or some lines
 -- of it that come first.
-abbrev pub HasBegun : Ran → (ℕ → Bool) → (Opening → List machine.Event → Type 0) → Type 0
+abbrev pub HasBegun : RunUse → (ℕ → Bool) → (Opening → List machine.Event → Type 0) → Type 0
 HasBegun r failed P =
-    (o : Opening) × (run : HasRun r.work r.schedule o (meant r.kept) failed r.devices_before r.devices_after) × RunStands (the_run run)
+    (o : Opening) × (run : HasRunWork r.work r.schedule o (meant r.kept) failed r.devices_before r.devices_after) × RunStands (the_run run)
     × P o (meant r.kept) × WritesLines traced_line r.trace [] r.kept
 
-abbrev pub LogRose : Ran → ℕ → Type 0
+abbrev pub LogRose : RunUse → ℕ → Type 0
 LogRose r log = Rose (device_at r.devices_before log).faults (device_at r.devices_after log).faults
 
 -- each log that failed is one of the work's, its count rose, and its Sync could come
-abbrev pub EachFailed : Ran → (ℕ → Bool) → Opening → List machine.Event → Type 0
+abbrev pub EachFailed : RunUse → (ℕ → Bool) → Opening → List machine.Event → Type 0
 EachFailed r failed o es = (l : ℕ) → failed l ≡ true → (l < r.work.logs) × LogRose r l × GoesOnWith r.work free o es (machine.Sync l)
 
 -- A run began, and ended since the device of this log failed. One thread stops there, at its next event, so no other log failed. With
 -- several workers others may have failed too, and it is the least of them.
-abbrev pub HasFailed : Ran → Schedule → ℕ → (Opening → List machine.Event → Type 0) → Type 0
+abbrev pub HasFailed : RunUse → Schedule → ℕ → (Opening → List machine.Event → Type 0) → Type 0
 HasFailed r (seeded seed) log P = HasBegun r (only_failed log) (λ o es. GoesOnWith r.work (seeded seed) o es (machine.Sync log) × P o es)
 HasFailed r free log P = (failed : ℕ → Bool) × IsLeastOf failed log × HasBegun r failed (λ o es. EachFailed r failed o es × P o es)
 
-abbrev pub IsAnswerOf : Printing → Ran → Status → Type 0
+abbrev pub IsAnswerOf : Printing → RunUse → Status → Type 0
 IsAnswerOf p r status.Done = HasBegun r none_failed (λ o es. HasAnswered r.work o es × PrintsAll (printed_of p r o es)) × Writes r.trace (trace_of r.kept)
 IsAnswerOf p r (status.Usage place) = ⊥
 IsAnswerOf p r (status.Input line cause) = ⊥
@@ -175,11 +175,11 @@ IsAnswerOf p r status.TraceFault =
     Rose r.trace.faults_before r.trace.faults_after × HasBegun r none_failed (λ o es. HasAnswered r.work o es × PrintsAll (printed_of p r o es))
 
 -- of the command that prints the report
-abbrev pub IsWorkAnswer : Ran → Status → Type 0
+abbrev pub IsWorkAnswer : RunUse → Status → Type 0
 IsWorkAnswer r s = IsAnswerOf reporting r s
 
 -- of the one that prints the summary
-abbrev pub IsBenchAnswer : Ran → Status → Type 0
+abbrev pub IsBenchAnswer : RunUse → Status → Type 0
 IsBenchAnswer r s = IsAnswerOf summing r s
 
 -- ---- what stands in the way

@@ -9,8 +9,8 @@ use Rattle.protocol.specs.Events as machine
 use Rattle.protocol.specs.Fixed.{Fixed}
 use Rattle.run_recovery.specs.Runs.{meant, HasEnded}
 use Rattle.run_printing.specs.Printed.{traced_line}
-use Rattle.run_work.specs.Hosts.{HasLeft, LeftFailed, IsCoreOf, IsWithoutRun}
-use Rattle.run_work.specs.Runs.{Printing, Printed, ending_by, Ran, PrintsAll, PrintsEnding, PrintsWhole, PrintsNext, PrintsFailed, TellsUnsure, printed_of}
+use Rattle.run_work.specs.Hosts.{WasRunOnDevices, LeftFailed, IsCoreOf, IsWithoutRun}
+use Rattle.run_work.specs.Runs.{Printing, Printed, ending_by, RunUse, PrintsAll, PrintsEnding, PrintsWhole, PrintsNext, PrintsFailed, TellsUnsure, printed_of}
 use Rattle.run_work.specs.Statuses.{logs_status}
 use Rattle.run_work.specs.declared.hosts.Hosted.{Hosted}
 use Rattle.run_work.specs.Writings.{Writing, WritesNothing, Writes, WritesFront, WritesLines}
@@ -56,17 +56,17 @@ IsToldUnbegun p count (ending.Device log) out = TellsUnsure p log [] count [] ou
 IsToldUnbegun p count ending.Memory out = WritesNothing out
 
 -- no run began, for this reason
-pub record IsNoBeginning (p : Printing) (r : Ran) (why : LogsNo) : Type 0 where
+pub record IsNoBeginning (p : Printing) (r : RunUse) (why : LogsNo) : Type 0 where
   pub kept : r.kept ≡ []
   pub none : IsWithoutRun r.work r.devices_before r.devices_after why
   pub told : IsToldUnbegun p (length r.work.txs) why r.out
 
 -- what a run left on its logs
-abbrev pub RunLeft : Ran → Opening → (ℕ → Bool) → Type 0
-RunLeft r o failed = HasLeft r.work r.schedule o (meant r.kept) r.devices_before r.devices_after failed
+abbrev pub RunLeft : RunUse → Opening → (ℕ → Bool) → Type 0
+RunLeft r o failed = WasRunOnDevices r.work r.schedule o (meant r.kept) r.devices_before r.devices_after failed
 
 -- How a run of a work ended before its trace is written: none began, or one began and ended.
-abbrev pub IsUntraced : Printing → Ran → Status → Type 0
+abbrev pub IsUntraced : Printing → RunUse → Status → Type 0
 IsUntraced p r s =
     ((why : LogsNo) × IsNoBeginning p r why × (s ≡ logs_status why))
     ⊎ ((o : Opening) × IsRunEnd (RunLeft r o) (printed_of p r o (meant r.kept)) s)

@@ -20,7 +20,7 @@ use Rattle.protocol.specs.Runs.{EachAllowed, IsQuiet, IsRun, state_after, reache
 use Rattle.ready_renewal.specs.Covering.{Covers, CoversStill, HasNoFirst, IsFirst, IsFirstOf}
 use Rattle.ready_renewal.specs.Covering as hands
 use Rattle.snap_core.specs.Kept.{Extends, Sheds}
-use Rattle.snap_core.specs.Cores.{CoreState, IsCore, IsAt, state_at, IsTakenBy, IsRefusalBy, IsNoBy}
+use Rattle.snap_core.specs.Cores.{CoreState, IsCore, IsAt, state_at, HasTaken, IsRefusalBy, IsNoBy}
 use Rattle.snap_hand.proofs.Held.{all_here}
 use Rattle.snap_hand.specs.Hands.{Parts, Fits}
 use Rattle.snap_hand.specs.Steps.{MayBeAsked, IsRefusalOn, IsStep}
@@ -49,7 +49,7 @@ then w (d ∷ es) e s = then w es e (after w d s)
 
 module _ (t : Tables) (lead : (es : List Event) → IsRun (fixed_of t) es → HasRun (fixed_of t) (reached (fixed_of t) es)) where
   pub taken_by : (e : Event) (old new : Parts) (r : Result (Unit {0}) StepNo) → IsStep (fixed_of t) e old new r
-      → OnOk r (IsTakenBy e (core_of t old) (core_of t new))
+      → OnOk r (HasTaken e (core_of t old) (core_of t new))
   taken_by e old new (Ok _) step = λ es at.
       let taken = step.0 (reached (fixed_of t) es) (lead es at.run) at.fits in
       (taken.0, record { run = one_more (fixed_of t) es e (opening (fixed_of t)) at.run taken.0; fits = subst (Fits new) (sym (then (fixed_of t) es e (opening (fixed_of t)))) taken.1 })

@@ -33,8 +33,8 @@ pub record IsAt (c : CoreState) (es : List Event) : Type 0 where
   pub fits : Fits c.hand (state_at c es)
 
 -- wherever the core is, the event is allowed, and then it is behind it
-abbrev pub IsTakenBy : Event → CoreState → CoreState → Type 0
-IsTakenBy e old new = (es : List Event) → IsAt old es → IsAllowed (fixed_of old.tables) e (state_at old es) × IsAt new (es ++ e ∷ [])
+abbrev pub HasTaken : Event → CoreState → CoreState → Type 0
+HasTaken e old new = (es : List Event) → IsAt old es → IsAllowed (fixed_of old.tables) e (state_at old es) × IsAt new (es ++ e ∷ [])
 
 -- wherever the core is, this is the number of the first condition that is false, or 0 where the event is allowed
 abbrev pub IsRefusalBy : Event → CoreState → ℕ → Type 0

@@ -4,7 +4,7 @@ ghost use Rattle.snap_hand.specs.core_rows.OnRuns.{HasRun};
 ghost use Rattle.protocol.specs.Events as machine;
 ghost use Rattle.protocol.specs.Runs.{IsRun, reached};
 ghost use Rattle.core_events.specs.Meant.{event_meant};
-ghost use Rattle.snap_core.specs.Cores.{IsAt, IsTakenBy, IsRefusalBy, IsNoBy};
+ghost use Rattle.snap_core.specs.Cores.{IsAt, HasTaken, IsRefusalBy, IsNoBy};
 ghost use Rattle.snap_hand.specs.Tables.{AreTables, fixed_of};
 
 use aml_slice::Control;
@@ -54,7 +54,7 @@ impl Core {
     /// Takes the event, where it is allowed. Else, and for want of memory, the core stays as it was; `Memory` comes only
     /// of the events that add something.
     pub fn step(&mut self, alloc: Global, e: Event) -> Result<(), StepNo>
-        ensures ok { OnOk result (IsTakenBy (event_meant e) self.old self.new) }
+        ensures ok { OnOk result (HasTaken (event_meant e) self.old self.new) }
         ensures no { IfErr result (IsNoBy (event_meant e) self.old) }
         ensures unchanged { OnErr result (self.new ≡ self.old) }
         ensures tables { self.new.tables ≡ self.old.tables }

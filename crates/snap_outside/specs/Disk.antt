@@ -4,7 +4,7 @@ use Rattle.snap_outside.specs.declared.devices.DevOp.{DevOp}
 use Rattle.snap_outside.specs.declared.devices.DevOp.TheVariants.{Write, Sync}
 
 -- the bytes that a device was handed over with, and the operations since
-pub record History : Type 0 where
+pub record DeviceHistory : Type 0 where
   pub first : List ℕ
   pub ops : List DevOp
 
@@ -33,11 +33,11 @@ disk_after [] d = d
 disk_after (op ∷ ops) d = disk_after ops (op_done op d)
 
 -- the disk of a device with this history, whose first bytes were all fixed
-abbrev pub disk : History → Disk
+abbrev pub disk : DeviceHistory → Disk
 disk h = disk_after h.ops (settled h.first)
 
 -- what a read of all bytes gives
-abbrev pub content : History → List ℕ
+abbrev pub content : DeviceHistory → List ℕ
 content h = (disk h).now
 
 -- what a read of all bytes gives after these operations on a device that began with these bytes
@@ -68,25 +68,25 @@ EachMoment d (op ∷ ops) P = EachImage d P × EachMoment (op_done op d) ops P
 -- ---- what a call does to a device's history, where it is told
 
 -- the history with one operation more
-abbrev pub with_op : History → DevOp → History
+abbrev pub with_op : DeviceHistory → DevOp → DeviceHistory
 with_op h op = record { first = h.first; ops = h.ops ++ op ∷ [] }
 
 -- the history with these operations more
-abbrev pub with_ops : History → List DevOp → History
+abbrev pub with_ops : DeviceHistory → List DevOp → DeviceHistory
 with_ops h ops = record { first = h.first; ops = h.ops ++ ops }
 
 -- the operation is added
-abbrev pub Adds : Option History → Option History → DevOp → Type 0
-Adds None new op = new ≡ None
-Adds (Some h) new op = new ≡ Some (with_op h op)
+abbrev pub AddsOperation : Option DeviceHistory → Option DeviceHistory → DevOp → Type 0
+AddsOperation None new op = new ≡ None
+AddsOperation (Some h) new op = new ≡ Some (with_op h op)
 
 -- the operation is added, or nothing
-abbrev pub MayAdd : Option History → Option History → DevOp → Type 0
+abbrev pub MayAdd : Option DeviceHistory → Option DeviceHistory → DevOp → Type 0
 MayAdd None new op = new ≡ None
 MayAdd (Some h) new op = (new ≡ Some h) ⊎ (new ≡ Some (with_op h op))
 
 -- these operations are added
-abbrev pub AddsAll : Option History → Option History → List DevOp → Type 0
+abbrev pub AddsAll : Option DeviceHistory → Option DeviceHistory → List DevOp → Type 0
 AddsAll None new ops = new ≡ None
 AddsAll (Some h) new ops = new ≡ Some (with_ops h ops)
 
@@ -97,5 +97,5 @@ pub record IsCutShort (made ops : List DevOp) : Type 0 where
   pub whole : ops ≡ made ++ left
 
 -- the operations are added up to a fault, which left at least one of them out
-abbrev pub AddsUpToFault : Option History → Option History → List DevOp → Type 0
+abbrev pub AddsUpToFault : Option DeviceHistory → Option DeviceHistory → List DevOp → Type 0
 AddsUpToFault old new ops = (made : List DevOp) × IsCutShort made ops × AddsAll old new made

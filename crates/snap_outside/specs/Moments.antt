@@ -3,7 +3,7 @@
 use Rattle.std.specs.Prelude.{◌≡◌, ℕ, List, [], ◌∷◌, ◌++◌, Option, None, Some, refl}
 use Rattle.std.proofs.Common.{sym, ap, subst, ◌∙◌, append_assoc, append-nil}
 use Rattle.snap_outside.specs.declared.devices.DevOp.{DevOp}
-use Rattle.snap_outside.specs.Disk.{History, Disk, op_done, disk_after, EachImage, EachMoment, AddsAll}
+use Rattle.snap_outside.specs.Disk.{DeviceHistory, Disk, op_done, disk_after, EachImage, EachMoment, AddsAll}
 
 -- ---- disks
 
@@ -33,14 +33,14 @@ moments_weaker P Q then d (op ∷ ops) all = ((λ image left. then image (all.0 
 -- ---- histories
 
 -- a history that is as it was has no operations added
-pub adds_nothing : (old new : Option History) → new ≡ old → AddsAll old new []
+pub adds_nothing : (old new : Option DeviceHistory) → new ≡ old → AddsAll old new []
 adds_nothing None new same = same
 adds_nothing (Some h) new same = same ∙ ap (λ (ops : List DevOp). Some (record { first = h.first; ops = ops })) (sym (append-nil h.ops))
 
 -- operations that are added, and then others, are all added
-pub adds_join : (old between new : Option History) (xs ys : List DevOp)
+pub adds_join : (old between new : Option DeviceHistory) (xs ys : List DevOp)
     → AddsAll old between xs → AddsAll between new ys → AddsAll old new (xs ++ ys)
-adds_join None between new xs ys first second = subst (λ (t : Option History). AddsAll t new ys) first second
+adds_join None between new xs ys first second = subst (λ (t : Option DeviceHistory). AddsAll t new ys) first second
 adds_join (Some h) between new xs ys first second =
-    subst (λ (t : Option History). AddsAll t new ys) first second
+    subst (λ (t : Option DeviceHistory). AddsAll t new ys) first second
     ∙ ap (λ (ops : List DevOp). Some (record { first = h.first; ops = ops })) (append_assoc h.ops xs ys)

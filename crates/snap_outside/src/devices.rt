@@ -2,7 +2,7 @@
 ghost use Rattle.std.specs.Prelude.{◌≡◌, ℕ, ◌+◌, ◌-◌, ◌≤◌, min, max, length, take, drop, Option, Some, IsSome, IfSome, IfOk, OnOk, OnErr, MatchResult};
 ghost use Rattle.std.specs.Option.{ForSome};
 ghost use Rattle.snap_outside.specs.Causes.{HasCause};
-ghost use Rattle.snap_outside.specs.Disk.{History, content, Adds, MayAdd};
+ghost use Rattle.snap_outside.specs.Disk.{DeviceHistory, content, AddsOperation, MayAdd};
 ghost use Rattle.snap_outside.specs.declared.devices.DevOp.TheVariants as operation;
 
 use crate::schedules::Failed;
@@ -19,7 +19,7 @@ pub enum DevOp {
 /// crash may leave of it is `IsImage` in `specs/Disk.antt`.
 pub trait LogDev {
     /// What the device was handed over with and the operations since, where it tells them.
-    ghost told: { Self → Option History };
+    ghost told: { Self → Option DeviceHistory };
 
     /// The length in bytes, from the first `len` that succeeds on.
     ghost told_length: { Self → Option ℕ };
@@ -51,16 +51,16 @@ pub trait LogDev {
         ensures length { OnOk result (IfSome (told_length self.old) (λ len. told_length self.new ≡ Some (max len (at + length bytes.now)))) }
         ensures kept { IsSome (told_length self.new) }
         ensures history { MatchResult result
-            (λ _. Adds (told self.old) (told self.new) (operation.Write at bytes.now))
+            (λ _. AddsOperation (told self.old) (told self.new) (operation.Write at bytes.now))
             (λ _. MayAdd (told self.old) (told self.new) (operation.Write at bytes.now)) }
         ensures cause { HasCause (faults self.old) (faults self.new) result };
 
     /// Makes durable what was written. A sync that fails has done nothing that can be relied on.
     fn sync(&mut self) -> Result<(), Failed>
         ensures same { told_length self.new ≡ told_length self.old }
-        ensures history { MatchResult result (λ _. Adds (told self.old) (told self.new) operation.Sync) (λ _. told self.new ≡ told self.old) }
+        ensures history { MatchResult result (λ _. AddsOperation (told self.old) (told self.new) operation.Sync) (λ _. told self.new ≡ told self.old) }
         ensures cause { HasCause (faults self.old) (faults self.new) result };
 
     /// Where the content is told, the length is its length.
-    ghost content_length: { (d : Self) (h : History) (n : ℕ) → told d ≡ Some h → told_length d ≡ Some n → n ≡ length (content h) };
+    ghost content_length: { (d : Self) (h : DeviceHistory) (n : ℕ) → told d ≡ Some h → told_length d ≡ Some n → n ≡ length (content h) };
 }

@@ -3,7 +3,7 @@ use Rattle.std.proofs.Common.{◌≡◌, ◌⊎◌, inl, inr, ℕ, List, Option,
 use Rattle.command_words.specs.CommandLaws.{OneCommand}
 use Rattle.command_words.specs.Words.{IsBench}
 use Rattle.run_work.specs.run_recovery.Schedules.{Schedule}
-use Rattle.run_work.specs.Runs.{Printing, reporting, summing, Ran, IsAnswerOf, IsWorkAnswer, IsOfLogs}
+use Rattle.run_work.specs.Runs.{Printing, reporting, summing, RunUse, IsAnswerOf, IsWorkAnswer, IsOfLogs}
 use Rattle.run_work.specs.Writings.{Writing}
 use Rattle.snap_outside.specs.Causes.{Rose}
 use Rattle.snap_recover.specs.declared.openings.Opening.{Opening}
@@ -24,7 +24,7 @@ abbrev pub FaultOrWork : Type 0
 FaultOrWork = (text : List ℕ) (f : WorkFault) (w : Work) → IsFirstWorkFault text f → ¬ IsWork text w
 
 -- it is run to its end
-ended : (p : Printing) (r : Ran) (s : Status) → ¬ IsOfLogs s → ¬ Rose r.out.faults_before r.out.faults_after → ¬ Rose r.trace.faults_before r.trace.faults_after → IsAnswerOf p r s
+ended : (p : Printing) (r : RunUse) (s : Status) → ¬ IsOfLogs s → ¬ Rose r.out.faults_before r.out.faults_after → ¬ Rose r.trace.faults_before r.trace.faults_after → IsAnswerOf p r s
     → (s ≡ status.Done) ⊎ (s ≡ status.Memory)
 ended p r status.Done not sink trace a = inl refl
 ended p r (status.Usage place) not sink trace a = absurd a

@@ -9,7 +9,7 @@ use Rattle.record_log.specs.Records.{KeepsRecords}
 use Rattle.log_opening.specs.Devices.{Device, IsOpenedAtMost}
 use Rattle.run_work.specs.run_opening.Opens.{MayOpen}
 use Rattle.run_work.specs.run_recovery.Schedules.{free}
-use Rattle.run_work.specs.Runs.{Printing, Ran, IsAnswerOf, IsWorkAnswer, IsOfLogs}
+use Rattle.run_work.specs.Runs.{Printing, RunUse, IsAnswerOf, IsWorkAnswer, IsOfLogs}
 use Rattle.run_work.specs.Writings.{Writing, WritesNothing}
 use Rattle.snap_recover.specs.declared.openings.Opening.{Opening}
 use Rattle.command_words.specs.declared.commands.Command.{Command}
@@ -146,7 +146,7 @@ run_not_of_logs one u w s opens of text v records o t =
     opens records o (subst (λ (x : Work). MayOpen x.logs x.states u.devices_before u.devices_after records o) (same_work one u.reading text v w of t.known t.work) t.opens)
 
 -- a run has called its logs
-pub run_calls : (p : Printing) (r : Ran) (s : Status) → IsAnswerOf p r s → GetsNoCall s → ⊥
+pub run_calls : (p : Printing) (r : RunUse) (s : Status) → IsAnswerOf p r s → GetsNoCall s → ⊥
 run_calls p r status.Done a none = none
 run_calls p r (status.Usage place) a none = a
 run_calls p r (status.Input line cause) a none = a

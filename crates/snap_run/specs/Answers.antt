@@ -14,7 +14,7 @@ use Rattle.run_work.specs.run_recovery.Schedules.{Schedule, seeded, free}
 use Rattle.command_words.specs.Words.{IsRunCommand, IsRecover, IsMigrate, IsGen, IsBench, IsUsageFault}
 use Rattle.snap_run.specs.Uses.{Reading, Use}
 use Rattle.run_work.specs.Writings.{Writing, WritesNothing, Writes, WritesFront}
-use Rattle.run_work.specs.Runs.{Ran, IsWorkAnswer, IsBenchAnswer}
+use Rattle.run_work.specs.Runs.{RunUse, IsWorkAnswer, IsBenchAnswer}
 use Rattle.work_gen.specs.Generated.{generated_text}
 use Rattle.snap_run.specs.Migrations.{IsMigrateAnswer}
 use Rattle.snap_run.specs.Recoveries.{IsRecoverAnswer}
@@ -34,7 +34,7 @@ schedule_asked zero seed = seeded seed
 schedule_asked (suc n) seed = free
 
 -- a run of this work, by what the call was given and left
-abbrev pub ran_of : Use → Work → Schedule → Ran
+abbrev pub ran_of : Use → Work → Schedule → RunUse
 ran_of u w schedule = record { work = w; schedule = schedule; kept = u.kept; devices_before = u.devices_before; devices_after = u.devices_after; out = u.writing; trace = u.tracing }
 
 abbrev pub OfWork : Use → Schedule → Status → Type 0

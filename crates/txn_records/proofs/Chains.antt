@@ -6,7 +6,7 @@ use Rattle.snap_base.specs.declared.ids.Tid.{Tid}
 use Rattle.snap_base.specs.declared.transactions.State.{State}
 use Rattle.txn_records.specs.declared.numbers.Stop.{Stop}
 use Rattle.txn_records.specs.Records.{IsState, field_bytes, state_bytes, states_bytes, actors_bytes, tids_bytes, values_bytes}
-use Rattle.txn_records.specs.Stops.{Fails, Any, Nil, Seq}
+use Rattle.txn_records.specs.Stops.{IsWhyUnread, Any, Nil, Seq}
 use Rattle.txn_records.specs.Numbers.{Between}
 use Rattle.txn_records.specs.Texts.{one_byte, AreStates, AreActors, AreTids, AreValues, Count, FewCount, Number, Actor, Field, GenesisTexts, InfoTexts, CompleteTexts, CommitTexts, ActTexts, DoneTexts, ActDoneTexts}
 use Rattle.txn_records.proofs.OneRecord.{SpelledApart, apart_through, apart16, apart64, Below, lists_apart, actors_apart, tids_apart, fields_apart, states_apart, actor_bytes, tid_bytes, IsActor, IsTid, are_actors, are_tids}
@@ -154,164 +154,164 @@ act_done_batch_some = number_some ActDoneNumber act_done_number_some
 
 -- ---- BatchCommit
 
-pub commit_bid : (bytes : List ℕ) (stop : Stop) → Fails (Number (λ n. Any)) bytes stop → Fails CommitTexts bytes stop
+pub commit_bid : (bytes : List ℕ) (stop : Stop) → IsWhyUnread (Number (λ n. Any)) bytes stop → IsWhyUnread CommitTexts bytes stop
 commit_bid bytes stop s = fails_first (Between 0 18446744073709551615) (to_be_bytes w64) (λ n. Nil) bytes stop (λ n p. nil_some) s
 
-pub commit_end : (n : ℕ) (bytes rest : List ℕ) (stop : Stop) → Between 0 18446744073709551615 n × (bytes ≡ to_be_bytes w64 n ++ rest) → Fails Nil rest stop → Fails CommitTexts bytes stop
+pub commit_end : (n : ℕ) (bytes rest : List ℕ) (stop : Stop) → Between 0 18446744073709551615 n × (bytes ≡ to_be_bytes w64 n ++ rest) → IsWhyUnread Nil rest stop → IsWhyUnread CommitTexts bytes stop
 commit_end n bytes rest stop p s = fails_after (Between 0 18446744073709551615) (to_be_bytes w64) (λ n. Nil) number_apart n bytes rest stop p.0 p.1 s
 
 -- ---- BatchComplete
 
-pub complete_bid : (bytes : List ℕ) (stop : Stop) → Fails (Number (λ n. Any)) bytes stop → Fails CompleteTexts bytes stop
+pub complete_bid : (bytes : List ℕ) (stop : Stop) → IsWhyUnread (Number (λ n. Any)) bytes stop → IsWhyUnread CompleteTexts bytes stop
 complete_bid bytes stop s = fails_first (Between 0 18446744073709551615) (to_be_bytes w64) (λ n. Actor CompleteState) bytes stop (λ n p. actor_some) s
 
-pub behind_complete_bid : (n : ℕ) (bytes rest : List ℕ) (stop : Stop) → Between 0 18446744073709551615 n × (bytes ≡ to_be_bytes w64 n ++ rest) → Fails (Actor CompleteState) rest stop → Fails CompleteTexts bytes stop
+pub behind_complete_bid : (n : ℕ) (bytes rest : List ℕ) (stop : Stop) → Between 0 18446744073709551615 n × (bytes ≡ to_be_bytes w64 n ++ rest) → IsWhyUnread (Actor CompleteState) rest stop → IsWhyUnread CompleteTexts bytes stop
 behind_complete_bid n bytes rest stop p s = fails_after (Between 0 18446744073709551615) (to_be_bytes w64) (λ n. Actor CompleteState) number_apart n bytes rest stop p.0 p.1 s
 
-pub complete_actor : (bytes : List ℕ) (stop : Stop) → Fails (Actor (λ n. Any)) bytes stop → Fails (Actor CompleteState) bytes stop
+pub complete_actor : (bytes : List ℕ) (stop : Stop) → IsWhyUnread (Actor (λ n. Any)) bytes stop → IsWhyUnread (Actor CompleteState) bytes stop
 complete_actor bytes stop s = fails_first (Between 0 65535) (to_be_bytes w16) CompleteState bytes stop (λ n p. state_some n) s
 
-pub behind_complete_actor : (n : ℕ) (bytes rest : List ℕ) (stop : Stop) → Between 0 65535 n × (bytes ≡ to_be_bytes w16 n ++ rest) → Fails (CompleteState n) rest stop → Fails (Actor CompleteState) bytes stop
+pub behind_complete_actor : (n : ℕ) (bytes rest : List ℕ) (stop : Stop) → Between 0 65535 n × (bytes ≡ to_be_bytes w16 n ++ rest) → IsWhyUnread (CompleteState n) rest stop → IsWhyUnread (Actor CompleteState) bytes stop
 behind_complete_actor n bytes rest stop p s = fails_after (Between 0 65535) (to_be_bytes w16) CompleteState actor_apart n bytes rest stop p.0 p.1 s
 
-pub complete_state : (n : ℕ) (bytes : List ℕ) (stop : Stop) → Fails (Seq IsState state_bytes (λ s. Any)) bytes stop → Fails (CompleteState n) bytes stop
+pub complete_state : (n : ℕ) (bytes : List ℕ) (stop : Stop) → IsWhyUnread (Seq IsState state_bytes (λ s. Any)) bytes stop → IsWhyUnread (CompleteState n) bytes stop
 complete_state n bytes stop s = fails_first IsState state_bytes (λ s. Nil) bytes stop (λ s p. nil_some) s
 
-pub complete_end : (n : ℕ) (state : State) (bytes rest : List ℕ) (stop : Stop) → IsState state × (bytes ≡ state_bytes state ++ rest) → Fails Nil rest stop → Fails (CompleteState n) bytes stop
+pub complete_end : (n : ℕ) (state : State) (bytes rest : List ℕ) (stop : Stop) → IsState state × (bytes ≡ state_bytes state ++ rest) → IsWhyUnread Nil rest stop → IsWhyUnread (CompleteState n) bytes stop
 complete_end n state bytes rest stop p s = fails_after IsState state_bytes (λ s. Nil) states_apart state bytes rest stop p.0 p.1 s
 
 -- ---- BatchInfo
 
-pub info_bid : (bytes : List ℕ) (stop : Stop) → Fails (Number (λ n. Any)) bytes stop → Fails InfoTexts bytes stop
+pub info_bid : (bytes : List ℕ) (stop : Stop) → IsWhyUnread (Number (λ n. Any)) bytes stop → IsWhyUnread InfoTexts bytes stop
 info_bid bytes stop s = fails_first (Between 0 18446744073709551615) (to_be_bytes w64) (λ n. Count InfoActors) bytes stop (λ n p. count_actors_some) s
 
-pub behind_info_bid : (n : ℕ) (bytes rest : List ℕ) (stop : Stop) → Between 0 18446744073709551615 n × (bytes ≡ to_be_bytes w64 n ++ rest) → Fails (Count InfoActors) rest stop → Fails InfoTexts bytes stop
+pub behind_info_bid : (n : ℕ) (bytes rest : List ℕ) (stop : Stop) → Between 0 18446744073709551615 n × (bytes ≡ to_be_bytes w64 n ++ rest) → IsWhyUnread (Count InfoActors) rest stop → IsWhyUnread InfoTexts bytes stop
 behind_info_bid n bytes rest stop p s = fails_after (Between 0 18446744073709551615) (to_be_bytes w64) (λ n. Count InfoActors) number_apart n bytes rest stop p.0 p.1 s
 
-pub info_count : (bytes : List ℕ) (stop : Stop) → Fails (Count (λ n. Any)) bytes stop → Fails (Count InfoActors) bytes stop
+pub info_count : (bytes : List ℕ) (stop : Stop) → IsWhyUnread (Count (λ n. Any)) bytes stop → IsWhyUnread (Count InfoActors) bytes stop
 info_count bytes stop s = fails_first (Between 1 256) (to_be_bytes w16) InfoActors bytes stop actors_some s
 
-pub behind_info_count : (n : ℕ) (bytes rest : List ℕ) (stop : Stop) → Between 1 256 n × (bytes ≡ to_be_bytes w16 n ++ rest) → Fails (InfoActors n) rest stop → Fails (Count InfoActors) bytes stop
+pub behind_info_count : (n : ℕ) (bytes rest : List ℕ) (stop : Stop) → Between 1 256 n × (bytes ≡ to_be_bytes w16 n ++ rest) → IsWhyUnread (InfoActors n) rest stop → IsWhyUnread (Count InfoActors) bytes stop
 behind_info_count n bytes rest stop p s = fails_after (Between 1 256) (to_be_bytes w16) InfoActors count_apart n bytes rest stop p.0 p.1 s
 
-pub info_actors : (n : ℕ) (bytes : List ℕ) (stop : Stop) → Fails (Seq (AreActors n) actors_bytes (λ xs. Any)) bytes stop → Fails (InfoActors n) bytes stop
+pub info_actors : (n : ℕ) (bytes : List ℕ) (stop : Stop) → IsWhyUnread (Seq (AreActors n) actors_bytes (λ xs. Any)) bytes stop → IsWhyUnread (InfoActors n) bytes stop
 info_actors n bytes stop s = fails_first (AreActors n) actors_bytes (λ xs. Count InfoTids) bytes stop (λ xs p. count_tids_some) s
 
-pub behind_info_actors : (n : ℕ) (xs : List ActorId) (bytes rest : List ℕ) (stop : Stop) → AreActors n xs × (bytes ≡ actors_bytes xs ++ rest) → Fails (Count InfoTids) rest stop → Fails (InfoActors n) bytes stop
+pub behind_info_actors : (n : ℕ) (xs : List ActorId) (bytes rest : List ℕ) (stop : Stop) → AreActors n xs × (bytes ≡ actors_bytes xs ++ rest) → IsWhyUnread (Count InfoTids) rest stop → IsWhyUnread (InfoActors n) bytes stop
 behind_info_actors n xs bytes rest stop p s = fails_after (AreActors n) actors_bytes (λ xs. Count InfoTids) (so_many_actors n) xs bytes rest stop p.0 p.1 s
 
-pub info_count_2 : (bytes : List ℕ) (stop : Stop) → Fails (Count (λ n. Any)) bytes stop → Fails (Count InfoTids) bytes stop
+pub info_count_2 : (bytes : List ℕ) (stop : Stop) → IsWhyUnread (Count (λ n. Any)) bytes stop → IsWhyUnread (Count InfoTids) bytes stop
 info_count_2 bytes stop s = fails_first (Between 1 256) (to_be_bytes w16) InfoTids bytes stop tids_some s
 
-pub behind_info_count_2 : (n : ℕ) (bytes rest : List ℕ) (stop : Stop) → Between 1 256 n × (bytes ≡ to_be_bytes w16 n ++ rest) → Fails (InfoTids n) rest stop → Fails (Count InfoTids) bytes stop
+pub behind_info_count_2 : (n : ℕ) (bytes rest : List ℕ) (stop : Stop) → Between 1 256 n × (bytes ≡ to_be_bytes w16 n ++ rest) → IsWhyUnread (InfoTids n) rest stop → IsWhyUnread (Count InfoTids) bytes stop
 behind_info_count_2 n bytes rest stop p s = fails_after (Between 1 256) (to_be_bytes w16) InfoTids count_apart n bytes rest stop p.0 p.1 s
 
-pub info_tids : (n : ℕ) (bytes : List ℕ) (stop : Stop) → Fails (Seq (AreTids n) tids_bytes (λ xs. Any)) bytes stop → Fails (InfoTids n) bytes stop
+pub info_tids : (n : ℕ) (bytes : List ℕ) (stop : Stop) → IsWhyUnread (Seq (AreTids n) tids_bytes (λ xs. Any)) bytes stop → IsWhyUnread (InfoTids n) bytes stop
 info_tids n bytes stop s = fails_first (AreTids n) tids_bytes (λ xs. Nil) bytes stop (λ xs p. nil_some) s
 
-pub info_end : (n : ℕ) (xs : List Tid) (bytes rest : List ℕ) (stop : Stop) → AreTids n xs × (bytes ≡ tids_bytes xs ++ rest) → Fails Nil rest stop → Fails (InfoTids n) bytes stop
+pub info_end : (n : ℕ) (xs : List Tid) (bytes rest : List ℕ) (stop : Stop) → AreTids n xs × (bytes ≡ tids_bytes xs ++ rest) → IsWhyUnread Nil rest stop → IsWhyUnread (InfoTids n) bytes stop
 info_end n xs bytes rest stop p s = fails_after (AreTids n) tids_bytes (λ xs. Nil) (so_many_tids n) xs bytes rest stop p.0 p.1 s
 
 -- ---- ActCommit
 
-number_fails : (F : List ℕ → Type 0) → Some F → (bytes : List ℕ) (stop : Stop) → Fails (Number (λ n. Any)) bytes stop → Fails (Number (λ n. F)) bytes stop
+number_fails : (F : List ℕ → Type 0) → Some F → (bytes : List ℕ) (stop : Stop) → IsWhyUnread (Number (λ n. Any)) bytes stop → IsWhyUnread (Number (λ n. F)) bytes stop
 number_fails F some bytes stop s = fails_first (Between 0 18446744073709551615) (to_be_bytes w64) (λ n. F) bytes stop (λ n p. some) s
 
-behind_number : (F : List ℕ → Type 0) (n : ℕ) (bytes rest : List ℕ) (stop : Stop) → Between 0 18446744073709551615 n × (bytes ≡ to_be_bytes w64 n ++ rest) → Fails F rest stop → Fails (Number (λ n. F)) bytes stop
+behind_number : (F : List ℕ → Type 0) (n : ℕ) (bytes rest : List ℕ) (stop : Stop) → Between 0 18446744073709551615 n × (bytes ≡ to_be_bytes w64 n ++ rest) → IsWhyUnread F rest stop → IsWhyUnread (Number (λ n. F)) bytes stop
 behind_number F n bytes rest stop p s = fails_after (Between 0 18446744073709551615) (to_be_bytes w64) (λ n. F) number_apart n bytes rest stop p.0 p.1 s
 
-pub act_tid : (bytes : List ℕ) (stop : Stop) → Fails (Number (λ n. Any)) bytes stop → Fails ActTexts bytes stop
+pub act_tid : (bytes : List ℕ) (stop : Stop) → IsWhyUnread (Number (λ n. Any)) bytes stop → IsWhyUnread ActTexts bytes stop
 act_tid bytes stop s = number_fails ActBatch act_batch_some bytes stop s
 
-pub behind_act_tid : (n : ℕ) (bytes rest : List ℕ) (stop : Stop) → Between 0 18446744073709551615 n × (bytes ≡ to_be_bytes w64 n ++ rest) → Fails ActBatch rest stop → Fails ActTexts bytes stop
+pub behind_act_tid : (n : ℕ) (bytes rest : List ℕ) (stop : Stop) → Between 0 18446744073709551615 n × (bytes ≡ to_be_bytes w64 n ++ rest) → IsWhyUnread ActBatch rest stop → IsWhyUnread ActTexts bytes stop
 behind_act_tid n bytes rest stop p s = behind_number ActBatch n bytes rest stop p s
 
-pub act_batch : (bytes : List ℕ) (stop : Stop) → Fails (Number (λ n. Any)) bytes stop → Fails ActBatch bytes stop
+pub act_batch : (bytes : List ℕ) (stop : Stop) → IsWhyUnread (Number (λ n. Any)) bytes stop → IsWhyUnread ActBatch bytes stop
 act_batch bytes stop s = number_fails ActNumber act_number_some bytes stop s
 
-pub behind_act_batch : (n : ℕ) (bytes rest : List ℕ) (stop : Stop) → Between 0 18446744073709551615 n × (bytes ≡ to_be_bytes w64 n ++ rest) → Fails ActNumber rest stop → Fails ActBatch bytes stop
+pub behind_act_batch : (n : ℕ) (bytes rest : List ℕ) (stop : Stop) → Between 0 18446744073709551615 n × (bytes ≡ to_be_bytes w64 n ++ rest) → IsWhyUnread ActNumber rest stop → IsWhyUnread ActBatch bytes stop
 behind_act_batch n bytes rest stop p s = behind_number ActNumber n bytes rest stop p s
 
-pub act_number : (bytes : List ℕ) (stop : Stop) → Fails (Number (λ n. Any)) bytes stop → Fails ActNumber bytes stop
+pub act_number : (bytes : List ℕ) (stop : Stop) → IsWhyUnread (Number (λ n. Any)) bytes stop → IsWhyUnread ActNumber bytes stop
 act_number bytes stop s = number_fails ActCount act_count_some bytes stop s
 
-pub behind_act_number : (n : ℕ) (bytes rest : List ℕ) (stop : Stop) → Between 0 18446744073709551615 n × (bytes ≡ to_be_bytes w64 n ++ rest) → Fails ActCount rest stop → Fails ActNumber bytes stop
+pub behind_act_number : (n : ℕ) (bytes rest : List ℕ) (stop : Stop) → Between 0 18446744073709551615 n × (bytes ≡ to_be_bytes w64 n ++ rest) → IsWhyUnread ActCount rest stop → IsWhyUnread ActNumber bytes stop
 behind_act_number n bytes rest stop p s = behind_number ActCount n bytes rest stop p s
 
-pub act_count : (bytes : List ℕ) (stop : Stop) → Fails (FewCount (λ n. Any)) bytes stop → Fails ActCount bytes stop
+pub act_count : (bytes : List ℕ) (stop : Stop) → IsWhyUnread (FewCount (λ n. Any)) bytes stop → IsWhyUnread ActCount bytes stop
 act_count bytes stop s = fails_first (Between 1 16) (to_be_bytes w16) ActActors bytes stop act_actors_some s
 
-pub behind_act_count : (n : ℕ) (bytes rest : List ℕ) (stop : Stop) → Between 1 16 n × (bytes ≡ to_be_bytes w16 n ++ rest) → Fails (ActActors n) rest stop → Fails ActCount bytes stop
+pub behind_act_count : (n : ℕ) (bytes rest : List ℕ) (stop : Stop) → Between 1 16 n × (bytes ≡ to_be_bytes w16 n ++ rest) → IsWhyUnread (ActActors n) rest stop → IsWhyUnread ActCount bytes stop
 behind_act_count n bytes rest stop p s = fails_after (Between 1 16) (to_be_bytes w16) ActActors few_apart n bytes rest stop p.0 p.1 s
 
-pub act_actors : (n : ℕ) (bytes : List ℕ) (stop : Stop) → Fails (Seq (AreActors n) actors_bytes (λ xs. Any)) bytes stop → Fails (ActActors n) bytes stop
+pub act_actors : (n : ℕ) (bytes : List ℕ) (stop : Stop) → IsWhyUnread (Seq (AreActors n) actors_bytes (λ xs. Any)) bytes stop → IsWhyUnread (ActActors n) bytes stop
 act_actors n bytes stop s = fails_first (AreActors n) actors_bytes (λ xs. Nil) bytes stop (λ xs p. nil_some) s
 
-pub act_end : (n : ℕ) (xs : List ActorId) (bytes rest : List ℕ) (stop : Stop) → AreActors n xs × (bytes ≡ actors_bytes xs ++ rest) → Fails Nil rest stop → Fails (ActActors n) bytes stop
+pub act_end : (n : ℕ) (xs : List ActorId) (bytes rest : List ℕ) (stop : Stop) → AreActors n xs × (bytes ≡ actors_bytes xs ++ rest) → IsWhyUnread Nil rest stop → IsWhyUnread (ActActors n) bytes stop
 act_end n xs bytes rest stop p s = fails_after (AreActors n) actors_bytes (λ xs. Nil) (so_many_actors n) xs bytes rest stop p.0 p.1 s
 
 -- ---- BatchDone
 
-pub done_bid : (bytes : List ℕ) (stop : Stop) → Fails (Number (λ n. Any)) bytes stop → Fails DoneTexts bytes stop
+pub done_bid : (bytes : List ℕ) (stop : Stop) → IsWhyUnread (Number (λ n. Any)) bytes stop → IsWhyUnread DoneTexts bytes stop
 done_bid bytes stop s = number_fails (Count DoneValues) count_values_some bytes stop s
 
-pub behind_done_bid : (n : ℕ) (bytes rest : List ℕ) (stop : Stop) → Between 0 18446744073709551615 n × (bytes ≡ to_be_bytes w64 n ++ rest) → Fails (Count DoneValues) rest stop → Fails DoneTexts bytes stop
+pub behind_done_bid : (n : ℕ) (bytes rest : List ℕ) (stop : Stop) → Between 0 18446744073709551615 n × (bytes ≡ to_be_bytes w64 n ++ rest) → IsWhyUnread (Count DoneValues) rest stop → IsWhyUnread DoneTexts bytes stop
 behind_done_bid n bytes rest stop p s = behind_number (Count DoneValues) n bytes rest stop p s
 
-pub done_count : (bytes : List ℕ) (stop : Stop) → Fails (Count (λ n. Any)) bytes stop → Fails (Count DoneValues) bytes stop
+pub done_count : (bytes : List ℕ) (stop : Stop) → IsWhyUnread (Count (λ n. Any)) bytes stop → IsWhyUnread (Count DoneValues) bytes stop
 done_count bytes stop s = fails_first (Between 1 256) (to_be_bytes w16) DoneValues bytes stop (λ n p. values_some n) s
 
-pub behind_done_count : (n : ℕ) (bytes rest : List ℕ) (stop : Stop) → Between 1 256 n × (bytes ≡ to_be_bytes w16 n ++ rest) → Fails (DoneValues n) rest stop → Fails (Count DoneValues) bytes stop
+pub behind_done_count : (n : ℕ) (bytes rest : List ℕ) (stop : Stop) → Between 1 256 n × (bytes ≡ to_be_bytes w16 n ++ rest) → IsWhyUnread (DoneValues n) rest stop → IsWhyUnread (Count DoneValues) bytes stop
 behind_done_count n bytes rest stop p s = fails_after (Between 1 256) (to_be_bytes w16) DoneValues count_apart n bytes rest stop p.0 p.1 s
 
-pub done_values : (n : ℕ) (bytes : List ℕ) (stop : Stop) → Fails (Seq (AreValues n) values_bytes (λ vs. Any)) bytes stop → Fails (DoneValues n) bytes stop
+pub done_values : (n : ℕ) (bytes : List ℕ) (stop : Stop) → IsWhyUnread (Seq (AreValues n) values_bytes (λ vs. Any)) bytes stop → IsWhyUnread (DoneValues n) bytes stop
 done_values n bytes stop s = fails_first (AreValues n) values_bytes (λ vs. Nil) bytes stop (λ vs p. nil_some) s
 
-pub done_end : (n : ℕ) (vs : List ℤ) (bytes rest : List ℕ) (stop : Stop) → AreValues n vs × (bytes ≡ values_bytes vs ++ rest) → Fails Nil rest stop → Fails (DoneValues n) bytes stop
+pub done_end : (n : ℕ) (vs : List ℤ) (bytes rest : List ℕ) (stop : Stop) → AreValues n vs × (bytes ≡ values_bytes vs ++ rest) → IsWhyUnread Nil rest stop → IsWhyUnread (DoneValues n) bytes stop
 done_end n vs bytes rest stop p s = fails_after (AreValues n) values_bytes (λ vs. Nil) (so_many_values n) vs bytes rest stop p.0 p.1 s
 
 -- ---- ActDone, which ends as ActCommit does
 
-pub act_done_tid : (bytes : List ℕ) (stop : Stop) → Fails (Number (λ n. Any)) bytes stop → Fails ActDoneTexts bytes stop
+pub act_done_tid : (bytes : List ℕ) (stop : Stop) → IsWhyUnread (Number (λ n. Any)) bytes stop → IsWhyUnread ActDoneTexts bytes stop
 act_done_tid bytes stop s = number_fails ActDoneBatch act_done_batch_some bytes stop s
 
-pub behind_act_done_tid : (n : ℕ) (bytes rest : List ℕ) (stop : Stop) → Between 0 18446744073709551615 n × (bytes ≡ to_be_bytes w64 n ++ rest) → Fails ActDoneBatch rest stop → Fails ActDoneTexts bytes stop
+pub behind_act_done_tid : (n : ℕ) (bytes rest : List ℕ) (stop : Stop) → Between 0 18446744073709551615 n × (bytes ≡ to_be_bytes w64 n ++ rest) → IsWhyUnread ActDoneBatch rest stop → IsWhyUnread ActDoneTexts bytes stop
 behind_act_done_tid n bytes rest stop p s = behind_number ActDoneBatch n bytes rest stop p s
 
-pub act_done_batch : (bytes : List ℕ) (stop : Stop) → Fails (Number (λ n. Any)) bytes stop → Fails ActDoneBatch bytes stop
+pub act_done_batch : (bytes : List ℕ) (stop : Stop) → IsWhyUnread (Number (λ n. Any)) bytes stop → IsWhyUnread ActDoneBatch bytes stop
 act_done_batch bytes stop s = number_fails ActDoneNumber act_done_number_some bytes stop s
 
-pub behind_act_done_batch : (n : ℕ) (bytes rest : List ℕ) (stop : Stop) → Between 0 18446744073709551615 n × (bytes ≡ to_be_bytes w64 n ++ rest) → Fails ActDoneNumber rest stop → Fails ActDoneBatch bytes stop
+pub behind_act_done_batch : (n : ℕ) (bytes rest : List ℕ) (stop : Stop) → Between 0 18446744073709551615 n × (bytes ≡ to_be_bytes w64 n ++ rest) → IsWhyUnread ActDoneNumber rest stop → IsWhyUnread ActDoneBatch bytes stop
 behind_act_done_batch n bytes rest stop p s = behind_number ActDoneNumber n bytes rest stop p s
 
-pub act_done_number : (bytes : List ℕ) (stop : Stop) → Fails (Number (λ n. Any)) bytes stop → Fails ActDoneNumber bytes stop
+pub act_done_number : (bytes : List ℕ) (stop : Stop) → IsWhyUnread (Number (λ n. Any)) bytes stop → IsWhyUnread ActDoneNumber bytes stop
 act_done_number bytes stop s = number_fails ActValue act_value_some bytes stop s
 
-pub behind_act_done_number : (n : ℕ) (bytes rest : List ℕ) (stop : Stop) → Between 0 18446744073709551615 n × (bytes ≡ to_be_bytes w64 n ++ rest) → Fails ActValue rest stop → Fails ActDoneNumber bytes stop
+pub behind_act_done_number : (n : ℕ) (bytes rest : List ℕ) (stop : Stop) → Between 0 18446744073709551615 n × (bytes ≡ to_be_bytes w64 n ++ rest) → IsWhyUnread ActValue rest stop → IsWhyUnread ActDoneNumber bytes stop
 behind_act_done_number n bytes rest stop p s = behind_number ActValue n bytes rest stop p s
 
-pub act_value : (bytes : List ℕ) (stop : Stop) → Fails (Seq (FitsSigned w64) field_bytes (λ v. Any)) bytes stop → Fails ActValue bytes stop
+pub act_value : (bytes : List ℕ) (stop : Stop) → IsWhyUnread (Seq (FitsSigned w64) field_bytes (λ v. Any)) bytes stop → IsWhyUnread ActValue bytes stop
 act_value bytes stop s = fails_first (FitsSigned w64) field_bytes (λ v. ActCount) bytes stop (λ v p. act_count_some) s
 
-pub behind_act_value : (v : ℤ) (bytes rest : List ℕ) (stop : Stop) → FitsSigned w64 v × (bytes ≡ field_bytes v ++ rest) → Fails ActCount rest stop → Fails ActValue bytes stop
+pub behind_act_value : (v : ℤ) (bytes rest : List ℕ) (stop : Stop) → FitsSigned w64 v × (bytes ≡ field_bytes v ++ rest) → IsWhyUnread ActCount rest stop → IsWhyUnread ActValue bytes stop
 behind_act_value v bytes rest stop p s = fails_after (FitsSigned w64) field_bytes (λ v. ActCount) fields_apart v bytes rest stop p.0 p.1 s
 
 -- ---- Genesis
 
-pub genesis_logs : (bytes : List ℕ) (stop : Stop) → Fails (Seq (Between 1 4) one_byte (λ n. Any)) bytes stop → Fails GenesisTexts bytes stop
+pub genesis_logs : (bytes : List ℕ) (stop : Stop) → IsWhyUnread (Seq (Between 1 4) one_byte (λ n. Any)) bytes stop → IsWhyUnread GenesisTexts bytes stop
 genesis_logs bytes stop s = fails_first (Between 1 4) one_byte (λ n. Count GenesisStates) bytes stop (λ n p. count_states_some) s
 
-pub behind_genesis_logs : (n : ℕ) (bytes rest : List ℕ) (stop : Stop) → Between 1 4 n × (bytes ≡ one_byte n ++ rest) → Fails (Count GenesisStates) rest stop → Fails GenesisTexts bytes stop
+pub behind_genesis_logs : (n : ℕ) (bytes rest : List ℕ) (stop : Stop) → Between 1 4 n × (bytes ≡ one_byte n ++ rest) → IsWhyUnread (Count GenesisStates) rest stop → IsWhyUnread GenesisTexts bytes stop
 behind_genesis_logs n bytes rest stop p s = fails_after (Between 1 4) one_byte (λ n. Count GenesisStates) (bytes_apart (Between 1 4)) n bytes rest stop p.0 p.1 s
 
-pub genesis_count : (bytes : List ℕ) (stop : Stop) → Fails (Count (λ n. Any)) bytes stop → Fails (Count GenesisStates) bytes stop
+pub genesis_count : (bytes : List ℕ) (stop : Stop) → IsWhyUnread (Count (λ n. Any)) bytes stop → IsWhyUnread (Count GenesisStates) bytes stop
 genesis_count bytes stop s = fails_first (Between 1 256) (to_be_bytes w16) GenesisStates bytes stop (λ n p. states_some n) s
 
-pub behind_genesis_count : (n : ℕ) (bytes rest : List ℕ) (stop : Stop) → Between 1 256 n × (bytes ≡ to_be_bytes w16 n ++ rest) → Fails (GenesisStates n) rest stop → Fails (Count GenesisStates) bytes stop
+pub behind_genesis_count : (n : ℕ) (bytes rest : List ℕ) (stop : Stop) → Between 1 256 n × (bytes ≡ to_be_bytes w16 n ++ rest) → IsWhyUnread (GenesisStates n) rest stop → IsWhyUnread (Count GenesisStates) bytes stop
 behind_genesis_count n bytes rest stop p s = fails_after (Between 1 256) (to_be_bytes w16) GenesisStates count_apart n bytes rest stop p.0 p.1 s
 
-pub genesis_states : (n : ℕ) (bytes : List ℕ) (stop : Stop) → Fails (Seq (AreStates n) states_bytes (λ xs. Any)) bytes stop → Fails (GenesisStates n) bytes stop
+pub genesis_states : (n : ℕ) (bytes : List ℕ) (stop : Stop) → IsWhyUnread (Seq (AreStates n) states_bytes (λ xs. Any)) bytes stop → IsWhyUnread (GenesisStates n) bytes stop
 genesis_states n bytes stop s = fails_first (AreStates n) states_bytes (λ xs. Nil) bytes stop (λ xs p. nil_some) s
 
-pub genesis_end : (n : ℕ) (xs : List State) (bytes rest : List ℕ) (stop : Stop) → AreStates n xs × (bytes ≡ states_bytes xs ++ rest) → Fails Nil rest stop → Fails (GenesisStates n) bytes stop
+pub genesis_end : (n : ℕ) (xs : List State) (bytes rest : List ℕ) (stop : Stop) → AreStates n xs × (bytes ≡ states_bytes xs ++ rest) → IsWhyUnread Nil rest stop → IsWhyUnread (GenesisStates n) bytes stop
 genesis_end n xs bytes rest stop p s = fails_after (AreStates n) states_bytes (λ xs. Nil) (so_many_states n) xs bytes rest stop p.0 p.1 s

@@ -5,7 +5,7 @@ use Rattle.std.specs.Int.{w16, w64, to_be_bytes}
 use Rattle.txn_records.specs.declared.numbers.Stop.{Stop}
 use Rattle.txn_records.specs.declared.numbers.Stop.TheVariants.{Left, Memory}
 use Rattle.txn_records.specs.Records.{Ascend}
-use Rattle.txn_records.specs.Stops.{Stops, Fails, Any, Seq}
+use Rattle.txn_records.specs.Stops.{Stops, IsWhyUnread, Any, Seq}
 use Rattle.txn_records.specs.Texts.{one_byte}
 use Rattle.txn_records.specs.Numbers.{big_endian, Between, Numbers, BeginsNumber}
 use Rattle.std.proofs.Math.Nat.{div-one, mod-eq_of_lt}
@@ -13,7 +13,7 @@ use Rattle.txn_records.proofs.OneRecord.{SpelledApart}
 use Rattle.txn_records.proofs.Stopping.{stops_alike, stops_first, stops_after}
 use Rattle.txn_records.proofs.Digits.{big_endian_2, big_endian_8}
 
-pub fails_alike : (F G : List ℕ → Type 0) (bytes : List ℕ) (stop : Stop) → ((f : List ℕ) → F f → G f) → ((f : List ℕ) → G f → F f) → Fails F bytes stop → Fails G bytes stop
+pub fails_alike : (F G : List ℕ → Type 0) (bytes : List ℕ) (stop : Stop) → ((f : List ℕ) → F f → G f) → ((f : List ℕ) → G f → F f) → IsWhyUnread F bytes stop → IsWhyUnread G bytes stop
 fails_alike F G bytes (Left left) there back s = stops_alike F G bytes left there back s
 fails_alike F G bytes Memory there back s = tt
 
@@ -21,28 +21,28 @@ fails_alike F G bytes Memory there back s = tt
 abbrev pub Behind : (List ℕ → Type 0) → List ℕ → (List ℕ → Type 0) → List ℕ → Type 0
 Behind F bytes G rest = (left : ℕ) → Stops G rest left → Stops F bytes left
 
-pub fails_behind : (F G : List ℕ → Type 0) (bytes rest : List ℕ) (stop : Stop) → Behind F bytes G rest → Fails G rest stop → Fails F bytes stop
+pub fails_behind : (F G : List ℕ → Type 0) (bytes rest : List ℕ) (stop : Stop) → Behind F bytes G rest → IsWhyUnread G rest stop → IsWhyUnread F bytes stop
 fails_behind F G bytes rest (Left left) b s = b left s
 fails_behind F G bytes rest Memory b s = tt
 
 pub fails_first : {X : Type 0} (Is : X → Type 0) (spell : X → List ℕ) (G : X → List ℕ → Type 0) (bytes : List ℕ) (stop : Stop)
-    → ((x : X) → Is x → (g : List ℕ) × G x g) → Fails (Seq Is spell (λ x. Any)) bytes stop → Fails (Seq Is spell G) bytes stop
+    → ((x : X) → Is x → (g : List ℕ) × G x g) → IsWhyUnread (Seq Is spell (λ x. Any)) bytes stop → IsWhyUnread (Seq Is spell G) bytes stop
 fails_first Is spell G bytes (Left left) some s = stops_first Is spell G bytes left some s
 fails_first Is spell G bytes Memory some s = tt
 
 pub fails_after : {X : Type 0} (Is : X → Type 0) (spell : X → List ℕ) (G : X → List ℕ → Type 0) → SpelledApart Is spell
-    → (x : X) (bytes rest : List ℕ) (stop : Stop) → Is x → bytes ≡ spell x ++ rest → Fails (G x) rest stop → Fails (Seq Is spell G) bytes stop
+    → (x : X) (bytes rest : List ℕ) (stop : Stop) → Is x → bytes ≡ spell x ++ rest → IsWhyUnread (G x) rest stop → IsWhyUnread (Seq Is spell G) bytes stop
 fails_after Is spell G each x bytes rest (Left left) p e s = stops_after Is spell G each x bytes rest left p e s
 fails_after Is spell G each x bytes rest Memory p e s = tt
 
 -- ---- numbers of two and of eight bytes
 
-pub fails_64 : (low high : ℕ) (bytes : List ℕ) (stop : Stop) → Fails (Numbers 8 low high) bytes stop → Fails (Seq (Between low high) (to_be_bytes w64) (λ n. Any)) bytes stop
+pub fails_64 : (low high : ℕ) (bytes : List ℕ) (stop : Stop) → IsWhyUnread (Numbers 8 low high) bytes stop → IsWhyUnread (Seq (Between low high) (to_be_bytes w64) (λ n. Any)) bytes stop
 fails_64 low high bytes stop s = fails_alike (Numbers 8 low high) (Seq (Between low high) (to_be_bytes w64) (λ n. Any)) bytes stop
     (λ f w. (w.0, w.1, w.2, tt, w.4 ∙ ap (λ (z : List ℕ). z ++ w.1) (big_endian_8 w.0)))
     (λ f w. (w.0, w.1, w.2, tt, w.4 ∙ ap (λ (z : List ℕ). z ++ w.1) (sym (big_endian_8 w.0)))) s
 
-pub fails_16 : (low high : ℕ) (bytes : List ℕ) (stop : Stop) → Fails (Numbers 2 low high) bytes stop → Fails (Seq (Between low high) (to_be_bytes w16) (λ n. Any)) bytes stop
+pub fails_16 : (low high : ℕ) (bytes : List ℕ) (stop : Stop) → IsWhyUnread (Numbers 2 low high) bytes stop → IsWhyUnread (Seq (Between low high) (to_be_bytes w16) (λ n. Any)) bytes stop
 fails_16 low high bytes stop s = fails_alike (Numbers 2 low high) (Seq (Between low high) (to_be_bytes w16) (λ n. Any)) bytes stop
     (λ f w. (w.0, w.1, w.2, tt, w.4 ∙ ap (λ (z : List ℕ). z ++ w.1) (big_endian_2 w.0)))
     (λ f w. (w.0, w.1, w.2, tt, w.4 ∙ ap (λ (z : List ℕ). z ++ w.1) (sym (big_endian_2 w.0)))) s
@@ -50,7 +50,7 @@ fails_16 low high bytes stop s = fails_alike (Numbers 2 low high) (Seq (Between 
 pub big_endian_1 : (n : ℕ) → n < 256 → big_endian 1 n ≡ one_byte n
 big_endian_1 n lt = ap (λ (z : ℕ). z % 256 ∷ []) (div-one n) ∙ ap (λ (z : ℕ). z ∷ []) (mod-eq_of_lt lt)
 
-pub fails_8 : (low high : ℕ) (bytes : List ℕ) (stop : Stop) → high < 256 → Fails (Numbers 1 low high) bytes stop → Fails (Seq (Between low high) one_byte (λ n. Any)) bytes stop
+pub fails_8 : (low high : ℕ) (bytes : List ℕ) (stop : Stop) → high < 256 → IsWhyUnread (Numbers 1 low high) bytes stop → IsWhyUnread (Seq (Between low high) one_byte (λ n. Any)) bytes stop
 fails_8 low high bytes stop small s = fails_alike (Numbers 1 low high) (Seq (Between low high) one_byte (λ n. Any)) bytes stop
     (λ f w. (w.0, w.1, w.2, tt, w.4 ∙ ap (λ (z : List ℕ). z ++ w.1) (big_endian_1 w.0 (omega (arith, w.2)))))
     (λ f w. (w.0, w.1, w.2, tt, w.4 ∙ ap (λ (z : List ℕ). z ++ w.1) (sym (big_endian_1 w.0 (omega (arith, w.2)))))) s
@@ -97,11 +97,11 @@ lists_behind Is spell each F bytes rest after n m x en p e b = λ left s.
     b left (subst (λ (z : ℕ). Stops (Lists Is spell z) rest left) (sym en) t)
 
 pub lists_stop : {X : Type 0} (Is : X → Type 0) (spell : X → List ℕ) (F : List ℕ → Type 0) (bytes rest : List ℕ) (n m : ℕ) (stop : Stop) → n ≡ m + 1
-    → Behind F bytes (Lists Is spell n) rest → Fails (Seq Is spell (λ x. Any)) rest stop → Fails F bytes stop
+    → Behind F bytes (Lists Is spell n) rest → IsWhyUnread (Seq Is spell (λ x. Any)) rest stop → IsWhyUnread F bytes stop
 lists_stop Is spell F bytes rest n m stop en b s =
     let t = fails_alike (Seq Is spell (λ x. Lists Is spell m)) (Lists Is spell (m + 1)) rest stop (lists_in Is spell m) (lists_out Is spell m)
     (fails_first Is spell (λ x. Lists Is spell m) rest stop (λ x p. (flat_map spell (copies x m) ++ [], (copies x m, [], are_copies Is x p m, tt, refl))) s) in
-    fails_behind F (Lists Is spell n) bytes rest stop b (subst (λ (z : ℕ). Fails (Lists Is spell z) rest stop) (sym en) t)
+    fails_behind F (Lists Is spell n) bytes rest stop b (subst (λ (z : ℕ). IsWhyUnread (Lists Is spell z) rest stop) (sym en) t)
 
 -- ---- lists of ascending numbers
 
@@ -157,9 +157,9 @@ risings_behind {X} value spell limit each F bytes rest after low next n m x en e
 
 pub risings_stop : {X : Type 0} (value : X → ℕ) (make : ℕ → X) (spell : X → List ℕ) (limit : ℕ) → ((n : ℕ) → value (make n) ≡ n)
     → (F : List ℕ → Type 0) (bytes rest : List ℕ) (low n m : ℕ) (stop : Stop) → n ≡ m + 1
-    → Behind F bytes (Risings value spell low limit n) rest → Fails (Seq (Roomy value low limit m) spell (λ x. Any)) rest stop → Fails F bytes stop
+    → Behind F bytes (Risings value spell low limit n) rest → IsWhyUnread (Seq (Roomy value low limit m) spell (λ x. Any)) rest stop → IsWhyUnread F bytes stop
 risings_stop {X} value make spell limit is F bytes rest low n m stop en b s =
     let G : X → List ℕ → Type 0 = λ x. Risings value spell (value x + 1) limit m in
     let t = fails_alike (ByOne value spell low limit m) (Risings value spell low limit (m + 1)) rest stop (risings_in value spell low limit m) (risings_out value spell low limit m)
     (fails_first (Roomy value low limit m) spell G rest stop (λ x p. let r : List X = row make (value x + 1) m in (flat_map spell r ++ [], (r, [], row_rises value make is (value x + 1) limit m (omega (arith, p.1)), tt, refl))) s) in
-    fails_behind F (Risings value spell low limit n) bytes rest stop b (subst (λ (z : ℕ). Fails (Risings value spell low limit z) rest stop) (sym en) t)
+    fails_behind F (Risings value spell low limit n) bytes rest stop b (subst (λ (z : ℕ). IsWhyUnread (Risings value spell low limit z) rest stop) (sym en) t)

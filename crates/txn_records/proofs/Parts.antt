@@ -12,7 +12,7 @@ use Rattle.snap_base.specs.declared.ids.Tid.{Tid}
 use Rattle.snap_base.specs.declared.transactions.State.{State}
 use Rattle.txn_records.specs.declared.numbers.Stop.{Stop}
 use Rattle.txn_records.specs.Records.{IsState, field_bytes, state_bytes}
-use Rattle.txn_records.specs.Stops.{Stops, Fails, Any, Nil, Seq}
+use Rattle.txn_records.specs.Stops.{Stops, IsWhyUnread, Any, Nil, Seq}
 use Rattle.txn_records.specs.Numbers.{Between}
 use Rattle.txn_records.proofs.OneRecord.{SpelledApart, apart_through, apart16, apart64, Below, fields_apart, bits_below, actor_bytes, tid_bytes}
 use Rattle.txn_records.proofs.Stopping.{stops_alike, stops_here}
@@ -32,7 +32,7 @@ field_is z = refl
 signed_fits : (n : ℕ) → n < 2 ^ 64 → FitsSigned w64 (cast_signed w64 n)
 signed_fits n lt = let f : Fits w64 n = record { fits = lt } in sfits_to_z f
 
-pub fails_field : (bytes : List ℕ) (stop : Stop) → Fails (Seq (Between 0 18446744073709551615) (to_be_bytes w64) (λ n. Any)) bytes stop → Fails (Seq (FitsSigned w64) field_bytes (λ z. Any)) bytes stop
+pub fails_field : (bytes : List ℕ) (stop : Stop) → IsWhyUnread (Seq (Between 0 18446744073709551615) (to_be_bytes w64) (λ n. Any)) bytes stop → IsWhyUnread (Seq (FitsSigned w64) field_bytes (λ z. Any)) bytes stop
 fails_field bytes stop s = fails_alike (Seq (Between 0 18446744073709551615) (to_be_bytes w64) (λ n. Any)) (Seq (FitsSigned w64) field_bytes (λ z. Any)) bytes stop
     (λ f w. (cast_signed w64 w.0, w.1, signed_fits w.0 (omega (arith, w.2)), tt, w.4 ∙ ap (λ (z : List ℕ). z ++ w.1) (sym (field_of_bits w.0 (omega (arith, w.2))))))
     (λ f w. (cast_unsigned w64 w.0, w.1, (omega arith, omega (arith, bits_below w.0 w.2)), tt, w.4 ∙ ap (λ (z : List ℕ). z ++ w.1) (field_is w.0))) s
@@ -81,12 +81,12 @@ roomy_actors low n = apart_through (Roomy (λ (a : ActorId). a.0) low (2 ^ 16) n
 pub roomy_tids : (low n : ℕ) → SpelledApart (Roomy (λ (t : Tid). t.0) low (2 ^ 64) n) tid_bytes
 roomy_tids low n = apart_through (Roomy (λ (t : Tid). t.0) low (2 ^ 64) n) (Below (2 ^ 64)) (λ (t : Tid). t.0) (to_be_bytes w64) (λ a p. omega (arith, p)) (λ a b p q e. ap (λ (m : ℕ). let z : Tid = record { 0 = m } in z) e) apart64
 
-pub fails_actor : (low high n : ℕ) (bytes : List ℕ) (stop : Stop) → high + n + 1 ≡ 65536 → Fails (Seq (Between low high) (to_be_bytes w16) (λ n. Any)) bytes stop → Fails (Seq (Roomy (λ (a : ActorId). a.0) low (2 ^ 16) n) actor_bytes (λ a. Any)) bytes stop
+pub fails_actor : (low high n : ℕ) (bytes : List ℕ) (stop : Stop) → high + n + 1 ≡ 65536 → IsWhyUnread (Seq (Between low high) (to_be_bytes w16) (λ n. Any)) bytes stop → IsWhyUnread (Seq (Roomy (λ (a : ActorId). a.0) low (2 ^ 16) n) actor_bytes (λ a. Any)) bytes stop
 fails_actor low high n bytes stop e s = fails_alike (Seq (Between low high) (to_be_bytes w16) (λ n. Any)) (Seq (Roomy (λ (a : ActorId). a.0) low (2 ^ 16) n) actor_bytes (λ a. Any)) bytes stop
     (λ f w. let a : ActorId = record { 0 = w.0 } in (a, w.1, (w.2.0, omega (arith, w.2)), tt, w.4))
     (λ f w. (w.0.0, w.1, (w.2.0, omega (arith, w.2)), tt, w.4)) s
 
-pub fails_tid : (low high n : ℕ) (bytes : List ℕ) (stop : Stop) → high + n + 1 ≡ 2 ^ 64 → Fails (Seq (Between low high) (to_be_bytes w64) (λ n. Any)) bytes stop → Fails (Seq (Roomy (λ (t : Tid). t.0) low (2 ^ 64) n) tid_bytes (λ a. Any)) bytes stop
+pub fails_tid : (low high n : ℕ) (bytes : List ℕ) (stop : Stop) → high + n + 1 ≡ 2 ^ 64 → IsWhyUnread (Seq (Between low high) (to_be_bytes w64) (λ n. Any)) bytes stop → IsWhyUnread (Seq (Roomy (λ (t : Tid). t.0) low (2 ^ 64) n) tid_bytes (λ a. Any)) bytes stop
 fails_tid low high n bytes stop e s = fails_alike (Seq (Between low high) (to_be_bytes w64) (λ n. Any)) (Seq (Roomy (λ (t : Tid). t.0) low (2 ^ 64) n) tid_bytes (λ a. Any)) bytes stop
     (λ f w. let a : Tid = record { 0 = w.0 } in (a, w.1, (w.2.0, omega (arith, w.2)), tt, w.4))
     (λ f w. (w.0.0, w.1, (w.2.0, omega (arith, w.2)), tt, w.4)) s

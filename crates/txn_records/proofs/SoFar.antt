@@ -5,7 +5,7 @@ use Rattle.std.proofs.lemmas.List.{append-nil, length-append, flat_map_more, tak
 use Rattle.snap_base.proofs.Lists.{all_push}
 use Rattle.txn_records.specs.declared.numbers.Stop.{Stop}
 use Rattle.txn_records.specs.Records.{Ascend}
-use Rattle.txn_records.specs.Stops.{Stops, Fails, Any, Seq}
+use Rattle.txn_records.specs.Stops.{Stops, IsWhyUnread, Any, Seq}
 use Rattle.txn_records.proofs.OneRecord.{SpelledApart}
 use Rattle.txn_records.proofs.Lists.{Lists, lists_behind, lists_stop, Roomy, Risings, risings_behind, risings_stop}
 
@@ -48,7 +48,7 @@ list_more {X} Is spell each F bytes rest after xs ys x i count lt p e h s =
     subst (λ (z : List X). ListSoFar Is spell F bytes after z (i + 1) (count - (i + 1))) (sym h) r
 
 pub list_fails : {X : Type 0} (Is : X → Type 0) (spell : X → List ℕ) (F : List ℕ → Type 0) (bytes rest : List ℕ) (xs : List X) (i count : ℕ) (stop : Stop) → i < count
-    → ListSoFar Is spell F bytes rest xs i (count - i) → Fails (Seq Is spell (λ x. Any)) rest stop → Fails F bytes stop
+    → ListSoFar Is spell F bytes rest xs i (count - i) → IsWhyUnread (Seq Is spell (λ x. Any)) rest stop → IsWhyUnread F bytes stop
 list_fails Is spell F bytes rest xs i count stop lt s f = lists_stop Is spell F bytes rest (count - i) (count - (i + 1)) stop (omega arith) s.behind f
 
 -- ---- ascending
@@ -89,7 +89,7 @@ rising_more {X} value spell limit each F bytes rest after xs ys x low next i cou
 
 pub rising_fails : {X : Type 0} (value : X → ℕ) (make : ℕ → X) (spell : X → List ℕ) (limit : ℕ) → ((n : ℕ) → value (make n) ≡ n)
     → (F : List ℕ → Type 0) (bytes rest : List ℕ) (xs : List X) (low i count : ℕ) (stop : Stop) → i < count
-    → RisingSoFar value spell limit F bytes rest xs low i (count - i) → Fails (Seq (Roomy value low limit (count - (i + 1))) spell (λ x. Any)) rest stop → Fails F bytes stop
+    → RisingSoFar value spell limit F bytes rest xs low i (count - i) → IsWhyUnread (Seq (Roomy value low limit (count - (i + 1))) spell (λ x. Any)) rest stop → IsWhyUnread F bytes stop
 rising_fails value make spell limit is F bytes rest xs low i count stop lt s f = risings_stop value make spell limit is F bytes rest low (count - i) (count - (i + 1)) stop (omega arith) s.behind f
 
 pub rising_ends : {X : Type 0} (value : X → ℕ) (spell : X → List ℕ) (limit : ℕ) (F : List ℕ → Type 0) (bytes rest : List ℕ) (xs : List X) (low at left : ℕ)

@@ -10,7 +10,7 @@ use Rattle.txn_records.specs.declared.records.Record.TheVariants.{Genesis, Batch
 use Rattle.txn_records.specs.declared.numbers.Stop.{Stop}
 use Rattle.txn_records.specs.declared.numbers.Stop.TheVariants.{Left, Memory}
 use Rattle.txn_records.specs.Records.{IsRecord, record_bytes, states_bytes, actors_bytes, tids_bytes, field_bytes, values_bytes, state_bytes}
-use Rattle.txn_records.specs.Stops.{Stops, Fails, Nil, Seq}
+use Rattle.txn_records.specs.Stops.{Stops, IsWhyUnread, Nil, Seq}
 use Rattle.txn_records.specs.Texts.{AreActors, Number, Field, GenesisTexts, InfoTexts, CompleteTexts, CommitTexts, PrepareTexts, ActTexts, DoneTexts, ActDoneTexts, RecordTexts}
 use Rattle.txn_records.proofs.OneRecord.{other_tag, other_tag_down}
 use Rattle.txn_records.proofs.Stopping.{stops_here}
@@ -27,10 +27,10 @@ tag_stops T t rest left there back s = record {
 }
 
 abbrev pub IsRead : List ℕ → Result Record Stop → Type 0
-IsRead bytes r = MatchResult r (λ x. IsRecord x × (bytes ≡ record_bytes x)) (Fails RecordTexts bytes)
+IsRead bytes r = MatchResult r (λ x. IsRecord x × (bytes ≡ record_bytes x)) (IsWhyUnread RecordTexts bytes)
 
 abbrev pub IsReadBehind : ℕ → (List ℕ → Type 0) → List ℕ → Result Record Stop → Type 0
-IsReadBehind t T rest r = MatchResult r (λ x. IsRecord x × (t ∷ rest ≡ record_bytes x)) (Fails T rest)
+IsReadBehind t T rest r = MatchResult r (λ x. IsRecord x × (t ∷ rest ≡ record_bytes x)) (IsWhyUnread T rest)
 
 tag_read : (T : List ℕ → Type 0) (t : ℕ) (rest : List ℕ) (r : Result Record Stop) → ((f : List ℕ) → T f → RecordTexts (t ∷ f)) → ((f : List ℕ) → RecordTexts (t ∷ f) → T f) → IsReadBehind t T rest r → IsRead (t ∷ rest) r
 tag_read T t rest (Ok x) there back s = s

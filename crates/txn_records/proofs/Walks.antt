@@ -3,7 +3,7 @@ use Rattle.std.proofs.Common.{◌≡◌, ℕ, zero, suc, ◌-◌, ◌*◌, ◌/�
 use Rattle.std.proofs.Math.Nat.{pow-suc, mul-div_left, div-one, mod-eq_of_lt}
 use Rattle.txn_records.specs.declared.numbers.Stop.{Stop}
 use Rattle.txn_records.specs.declared.numbers.Stop.TheVariants.{Left, Memory}
-use Rattle.txn_records.specs.Stops.{Stops, Fails}
+use Rattle.txn_records.specs.Stops.{Stops, IsWhyUnread}
 use Rattle.txn_records.specs.Numbers.{Between, Numbers, BeginsNumber}
 use Rattle.txn_records.proofs.Digits.{first_stops, next_stops, next_found, some_behind, low_behind, high_behind, unit_some}
 
@@ -46,7 +46,7 @@ walk_some k unit low high b lo hi e some le fits l u el eh =
     (omega (arith, here, el, eh), omega (arith, eh, (smaller_unit k unit e some).1))
 
 abbrev pub Walked : ℕ → ℕ → ℕ → List ℕ → Result (Bor (List ℕ)) Stop → Type 0
-Walked k low high bytes r = MatchResult r (λ x. BeginsNumber k low high bytes x.now) (Fails (Numbers k low high) bytes)
+Walked k low high bytes r = MatchResult r (λ x. BeginsNumber k low high bytes x.now) (IsWhyUnread (Numbers k low high) bytes)
 
 walked_next : (k low high b : ℕ) (bytes rest : List ℕ) (r : Result (Bor (List ℕ)) Stop) → high < 256 ^ k * 256 → Between (low / 256 ^ k) (high / 256 ^ k) b → bytes ≡ b ∷ rest
     → Walked k (low_behind (256 ^ k) low b) (high_behind (256 ^ k) high b) rest r → Walked (suc k) low high bytes r

@@ -26,6 +26,6 @@ abbrev pub Seq : {X : Type 0} → (X → Type 0) → (X → List ℕ) → (X →
 Seq {X} Is spell G f = (x : X) × (g : List ℕ) × Is x × G x g × (f ≡ spell x ++ g)
 
 -- why nothing was read
-abbrev pub Fails : (List ℕ → Type 0) → List ℕ → Stop → Type 0
-Fails F bytes (Left left) = Stops F bytes left
-Fails F bytes Memory = ⊤
+abbrev pub IsWhyUnread : (List ℕ → Type 0) → List ℕ → Stop → Type 0
+IsWhyUnread F bytes (Left left) = Stops F bytes left
+IsWhyUnread F bytes Memory = ⊤

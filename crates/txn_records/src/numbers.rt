@@ -1,7 +1,7 @@
 //! Reading a number of one, two or eight bytes between two bounds.
 ghost use Rattle.std.specs.Prelude.{◌≡◌, ℕ, suc, ◌+◌, ◌*◌, ◌<◌, ◌≤◌, ◌^◌, ◌++◌, length, take, MatchResult};
 ghost use Rattle.std.specs.Int.{to_be_bytes, from_be_bytes, w16, w64};
-ghost use Rattle.txn_records.specs.Stops.{Fails, Any, Seq};
+ghost use Rattle.txn_records.specs.Stops.{IsWhyUnread, Any, Seq};
 ghost use Rattle.txn_records.specs.Texts.{one_byte};
 ghost use Rattle.txn_records.specs.Numbers.{Numbers, Between, BeginsNumber};
 
@@ -34,7 +34,7 @@ fn walk(bytes: &[u8], more: u32, unit: u64, low: u64, high: u64) -> Result<&[u8]
     requires unit { unit ≡ 256 ^ more }
     requires some { low ≤ high }
     requires fits { high < unit * 256 }
-    ensures { MatchResult result (λ rest. BeginsNumber (suc more) low high bytes.now rest.now) (Fails (Numbers (suc more) low high) bytes.now) }
+    ensures { MatchResult result (λ rest. BeginsNumber (suc more) low high bytes.now rest.now) (IsWhyUnread (Numbers (suc more) low high) bytes.now) }
 {
     let Some((first, rest)) = bytes.split_first() else {
         return Err(Stop::Left(0));
@@ -54,7 +54,7 @@ fn walk(bytes: &[u8], more: u32, unit: u64, low: u64, high: u64) -> Result<&[u8]
 /// The number of eight bytes between the bounds that stands first, and what is behind it.
 pub(crate) fn u64_between(bytes: &[u8], low: u64, high: u64) -> Result<(u64, &[u8]), Stop>
     requires { low ≤ high }
-    ensures { MatchResult result (λ x. Between low high x.0 × (bytes.now ≡ to_be_bytes w64 x.0 ++ x.1.now)) (Fails (Seq (Between low high) (to_be_bytes w64) (λ n. Any)) bytes.now) }
+    ensures { MatchResult result (λ x. Between low high x.0 × (bytes.now ≡ to_be_bytes w64 x.0 ++ x.1.now)) (IsWhyUnread (Seq (Between low high) (to_be_bytes w64) (λ n. Any)) bytes.now) }
 {
     if bytes.len() >= 8 {
         let (number, rest) = front_u64(bytes);
@@ -71,7 +71,7 @@ pub(crate) fn u64_between(bytes: &[u8], low: u64, high: u64) -> Result<(u64, &[u
 /// The number of two bytes between the bounds that stands first, and what is behind it.
 pub(crate) fn u16_between(bytes: &[u8], low: u16, high: u16) -> Result<(u16, &[u8]), Stop>
     requires { low ≤ high }
-    ensures { MatchResult result (λ x. Between low high x.0 × (bytes.now ≡ to_be_bytes w16 x.0 ++ x.1.now)) (Fails (Seq (Between low high) (to_be_bytes w16) (λ n. Any)) bytes.now) }
+    ensures { MatchResult result (λ x. Between low high x.0 × (bytes.now ≡ to_be_bytes w16 x.0 ++ x.1.now)) (IsWhyUnread (Seq (Between low high) (to_be_bytes w16) (λ n. Any)) bytes.now) }
 {
     if bytes.len() >= 2 {
         let (number, rest) = front_u16(bytes);
@@ -88,7 +88,7 @@ pub(crate) fn u16_between(bytes: &[u8], low: u16, high: u16) -> Result<(u16, &[u
 /// The byte between the bounds that stands first, and what is behind it.
 pub(crate) fn u8_between(bytes: &[u8], low: u8, high: u8) -> Result<(u8, &[u8]), Stop>
     requires { low ≤ high }
-    ensures { MatchResult result (λ x. Between low high x.0 × (bytes.now ≡ one_byte x.0 ++ x.1.now)) (Fails (Seq (Between low high) one_byte (λ n. Any)) bytes.now) }
+    ensures { MatchResult result (λ x. Between low high x.0 × (bytes.now ≡ one_byte x.0 ++ x.1.now)) (IsWhyUnread (Seq (Between low high) one_byte (λ n. Any)) bytes.now) }
 {
     match walk(bytes, 0, 1, low as u64, high as u64) {
         Ok(rest) => Ok((bytes[0], rest)),

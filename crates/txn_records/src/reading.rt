@@ -1,7 +1,7 @@
 //! Reading a record, kind by kind and field by field.
 ghost use Rattle.std.specs.Prelude.{◌≡◌, ℕ, ◌+◌, ◌<◌, ◌≤◌, ◌^◌, List, [], ◌∷◌, ◌++◌, length, take, FitsSigned, MatchResult};
 ghost use Rattle.std.specs.Int.{to_be_bytes, w16, w64};
-ghost use Rattle.txn_records.specs.Stops.{Fails, Any, Nil, Seq};
+ghost use Rattle.txn_records.specs.Stops.{IsWhyUnread, Any, Nil, Seq};
 ghost use Rattle.txn_records.specs.Numbers.{Between};
 ghost use Rattle.txn_records.specs.Records.{IsState, IsRecord, field_bytes, state_bytes, states_bytes, actors_bytes, tids_bytes, values_bytes, record_bytes};
 ghost use Rattle.txn_records.specs.Texts.{AreStates, AreActors, AreTids, AreValues, GenesisTexts, InfoTexts, CompleteTexts, CommitTexts, PrepareTexts, ActTexts, DoneTexts, ActDoneTexts, RecordTexts};
@@ -13,7 +13,7 @@ use std::alloc::Global;
 
 /// The state that stands first, and what is behind it.
 fn state_of(bytes: &[u8]) -> Result<(State, &[u8]), Stop>
-    ensures { MatchResult result (λ x. IsState x.0 × (bytes.now ≡ state_bytes x.0 ++ x.1.now)) (Fails (Seq IsState state_bytes (λ s. Any)) bytes.now) }
+    ensures { MatchResult result (λ x. IsState x.0 × (bytes.now ≡ state_bytes x.0 ++ x.1.now)) (IsWhyUnread (Seq IsState state_bytes (λ s. Any)) bytes.now) }
 {
     let mut fields = [0i64; FIELDS];
     let mut rest = bytes;
@@ -27,7 +27,7 @@ fn state_of(bytes: &[u8]) -> Result<(State, &[u8]), Stop>
 
 /// So many states, and what is behind them.
 fn states_of(alloc: Global, bytes: &[u8], count: usize) -> Result<(Sequence<State>, &[u8]), Stop>
-    ensures { MatchResult result (λ x. AreStates count x.0 × (bytes.now ≡ states_bytes x.0 ++ x.1.now)) (Fails (Seq (AreStates count) states_bytes (λ xs. Any)) bytes.now) }
+    ensures { MatchResult result (λ x. AreStates count x.0 × (bytes.now ≡ states_bytes x.0 ++ x.1.now)) (IsWhyUnread (Seq (AreStates count) states_bytes (λ xs. Any)) bytes.now) }
 {
     let mut states = Sequence::new(alloc);
     let mut rest = bytes;
@@ -42,7 +42,7 @@ fn states_of(alloc: Global, bytes: &[u8], count: usize) -> Result<(Sequence<Stat
 /// So many actors, which ascend, and what is behind them.
 fn actors_of(alloc: Global, bytes: &[u8], count: usize) -> Result<(Sequence<ActorId>, &[u8]), Stop>
     requires { count ≤ MOST_LISTED }
-    ensures { MatchResult result (λ x. AreActors count x.0 × (bytes.now ≡ actors_bytes x.0 ++ x.1.now)) (Fails (Seq (AreActors count) actors_bytes (λ xs. Any)) bytes.now) }
+    ensures { MatchResult result (λ x. AreActors count x.0 × (bytes.now ≡ actors_bytes x.0 ++ x.1.now)) (IsWhyUnread (Seq (AreActors count) actors_bytes (λ xs. Any)) bytes.now) }
 {
     let mut actors = Sequence::new(alloc);
     let mut rest = bytes;
@@ -60,7 +60,7 @@ fn actors_of(alloc: Global, bytes: &[u8], count: usize) -> Result<(Sequence<Acto
 /// So many tids, which ascend, and what is behind them.
 fn tids_of(alloc: Global, bytes: &[u8], count: usize) -> Result<(Sequence<Tid>, &[u8]), Stop>
     requires { count ≤ MOST_LISTED }
-    ensures { MatchResult result (λ x. AreTids count x.0 × (bytes.now ≡ tids_bytes x.0 ++ x.1.now)) (Fails (Seq (AreTids count) tids_bytes (λ xs. Any)) bytes.now) }
+    ensures { MatchResult result (λ x. AreTids count x.0 × (bytes.now ≡ tids_bytes x.0 ++ x.1.now)) (IsWhyUnread (Seq (AreTids count) tids_bytes (λ xs. Any)) bytes.now) }
 {
     let mut tids = Sequence::new(alloc);
     let mut rest = bytes;
@@ -77,7 +77,7 @@ fn tids_of(alloc: Global, bytes: &[u8], count: usize) -> Result<(Sequence<Tid>, 
 
 /// The value that stands first, and what is behind it.
 fn value_of(bytes: &[u8]) -> Result<(i64, &[u8]), Stop>
-    ensures { MatchResult result (λ x. FitsSigned w64 x.0 × (bytes.now ≡ field_bytes x.0 ++ x.1.now)) (Fails (Seq (FitsSigned w64) field_bytes (λ v. Any)) bytes.now) }
+    ensures { MatchResult result (λ x. FitsSigned w64 x.0 × (bytes.now ≡ field_bytes x.0 ++ x.1.now)) (IsWhyUnread (Seq (FitsSigned w64) field_bytes (λ v. Any)) bytes.now) }
 {
     let (bits, rest) = u64_between(bytes, 0, u64::MAX)?;
     Ok((bits.cast_signed(), rest))
@@ -85,7 +85,7 @@ fn value_of(bytes: &[u8]) -> Result<(i64, &[u8]), Stop>
 
 /// So many values, and what is behind them.
 fn values_of(alloc: Global, bytes: &[u8], count: usize) -> Result<(Sequence<i64>, &[u8]), Stop>
-    ensures { MatchResult result (λ x. AreValues count x.0 × (bytes.now ≡ values_bytes x.0 ++ x.1.now)) (Fails (Seq (AreValues count) values_bytes (λ xs. Any)) bytes.now) }
+    ensures { MatchResult result (λ x. AreValues count x.0 × (bytes.now ≡ values_bytes x.0 ++ x.1.now)) (IsWhyUnread (Seq (AreValues count) values_bytes (λ xs. Any)) bytes.now) }
 {
     let mut values = Sequence::new(alloc);
     let mut rest = bytes;
@@ -99,7 +99,7 @@ fn values_of(alloc: Global, bytes: &[u8], count: usize) -> Result<(Sequence<i64>
 
 /// A count from 1 to `MOST_LISTED`, and what is behind it.
 fn count_of(bytes: &[u8]) -> Result<(usize, &[u8]), Stop>
-    ensures { MatchResult result (λ x. Between 1 MOST_LISTED x.0 × (bytes.now ≡ to_be_bytes w16 x.0 ++ x.1.now)) (Fails (Seq (Between 1 MOST_LISTED) (to_be_bytes w16) (λ n. Any)) bytes.now) }
+    ensures { MatchResult result (λ x. Between 1 MOST_LISTED x.0 × (bytes.now ≡ to_be_bytes w16 x.0 ++ x.1.now)) (IsWhyUnread (Seq (Between 1 MOST_LISTED) (to_be_bytes w16) (λ n. Any)) bytes.now) }
 {
     let (count, rest) = u16_between(bytes, 1, MOST_LISTED as u16)?;
     Ok((count as usize, rest))
@@ -107,7 +107,7 @@ fn count_of(bytes: &[u8]) -> Result<(usize, &[u8]), Stop>
 
 /// Nothing is left.
 fn end_of(bytes: &[u8]) -> Result<(), Stop>
-    ensures { MatchResult result (λ x. bytes.now ≡ []) (Fails Nil bytes.now) }
+    ensures { MatchResult result (λ x. bytes.now ≡ []) (IsWhyUnread Nil bytes.now) }
 {
     if bytes.is_empty() {
         Ok(())
@@ -117,7 +117,7 @@ fn end_of(bytes: &[u8]) -> Result<(), Stop>
 }
 
 fn commit_of(bytes: &[u8]) -> Result<Record, Stop>
-    ensures { MatchResult result (λ r. IsRecord r × (4 ∷ bytes.now ≡ record_bytes r)) (Fails CommitTexts bytes.now) }
+    ensures { MatchResult result (λ r. IsRecord r × (4 ∷ bytes.now ≡ record_bytes r)) (IsWhyUnread CommitTexts bytes.now) }
 {
     let (bid, rest) = u64_between(bytes, 0, u64::MAX)?;
     end_of(rest)?;
@@ -125,7 +125,7 @@ fn commit_of(bytes: &[u8]) -> Result<Record, Stop>
 }
 
 fn complete_of(bytes: &[u8]) -> Result<Record, Stop>
-    ensures { MatchResult result (λ r. IsRecord r × (3 ∷ bytes.now ≡ record_bytes r)) (Fails CompleteTexts bytes.now) }
+    ensures { MatchResult result (λ r. IsRecord r × (3 ∷ bytes.now ≡ record_bytes r)) (IsWhyUnread CompleteTexts bytes.now) }
 {
     let (bid, rest) = u64_between(bytes, 0, u64::MAX)?;
     let (actor, rest) = u16_between(rest, 0, u16::MAX)?;
@@ -139,7 +139,7 @@ fn complete_of(bytes: &[u8]) -> Result<Record, Stop>
 }
 
 fn info_of(alloc: Global, bytes: &[u8]) -> Result<Record, Stop>
-    ensures { MatchResult result (λ r. IsRecord r × (2 ∷ bytes.now ≡ record_bytes r)) (Fails InfoTexts bytes.now) }
+    ensures { MatchResult result (λ r. IsRecord r × (2 ∷ bytes.now ≡ record_bytes r)) (IsWhyUnread InfoTexts bytes.now) }
 {
     let (bid, rest) = u64_between(bytes, 0, u64::MAX)?;
     let (count, rest) = count_of(rest)?;
@@ -155,7 +155,7 @@ fn info_of(alloc: Global, bytes: &[u8]) -> Result<Record, Stop>
 }
 
 fn genesis_of(alloc: Global, bytes: &[u8]) -> Result<Record, Stop>
-    ensures { MatchResult result (λ r. IsRecord r × (1 ∷ bytes.now ≡ record_bytes r)) (Fails GenesisTexts bytes.now) }
+    ensures { MatchResult result (λ r. IsRecord r × (1 ∷ bytes.now ≡ record_bytes r)) (IsWhyUnread GenesisTexts bytes.now) }
 {
     let (logs, rest) = u8_between(bytes, 1, MOST_LOGS)?;
     let (count, rest) = count_of(rest)?;
@@ -165,7 +165,7 @@ fn genesis_of(alloc: Global, bytes: &[u8]) -> Result<Record, Stop>
 }
 
 fn prepare_of(bytes: &[u8]) -> Result<Record, Stop>
-    ensures { MatchResult result (λ r. IsRecord r × (5 ∷ bytes.now ≡ record_bytes r)) (Fails PrepareTexts bytes.now) }
+    ensures { MatchResult result (λ r. IsRecord r × (5 ∷ bytes.now ≡ record_bytes r)) (IsWhyUnread PrepareTexts bytes.now) }
 {
     let (tid, rest) = u64_between(bytes, 0, u64::MAX)?;
     let (actor, rest) = u16_between(rest, 0, u16::MAX)?;
@@ -179,7 +179,7 @@ fn prepare_of(bytes: &[u8]) -> Result<Record, Stop>
 }
 
 fn act_of(alloc: Global, bytes: &[u8]) -> Result<Record, Stop>
-    ensures { MatchResult result (λ r. IsRecord r × (6 ∷ bytes.now ≡ record_bytes r)) (Fails ActTexts bytes.now) }
+    ensures { MatchResult result (λ r. IsRecord r × (6 ∷ bytes.now ≡ record_bytes r)) (IsWhyUnread ActTexts bytes.now) }
 {
     let (tid, rest) = u64_between(bytes, 0, u64::MAX)?;
     let (m, rest) = u64_between(rest, 0, u64::MAX)?;
@@ -196,7 +196,7 @@ fn act_of(alloc: Global, bytes: &[u8]) -> Result<Record, Stop>
 }
 
 fn done_of(alloc: Global, bytes: &[u8]) -> Result<Record, Stop>
-    ensures { MatchResult result (λ r. IsRecord r × (7 ∷ bytes.now ≡ record_bytes r)) (Fails DoneTexts bytes.now) }
+    ensures { MatchResult result (λ r. IsRecord r × (7 ∷ bytes.now ≡ record_bytes r)) (IsWhyUnread DoneTexts bytes.now) }
 {
     let (bid, rest) = u64_between(bytes, 0, u64::MAX)?;
     let (count, rest) = count_of(rest)?;
@@ -209,7 +209,7 @@ fn done_of(alloc: Global, bytes: &[u8]) -> Result<Record, Stop>
 }
 
 fn act_done_of(alloc: Global, bytes: &[u8]) -> Result<Record, Stop>
-    ensures { MatchResult result (λ r. IsRecord r × (8 ∷ bytes.now ≡ record_bytes r)) (Fails ActDoneTexts bytes.now) }
+    ensures { MatchResult result (λ r. IsRecord r × (8 ∷ bytes.now ≡ record_bytes r)) (IsWhyUnread ActDoneTexts bytes.now) }
 {
     let (tid, rest) = u64_between(bytes, 0, u64::MAX)?;
     let (m, rest) = u64_between(rest, 0, u64::MAX)?;
@@ -229,7 +229,7 @@ fn act_done_of(alloc: Global, bytes: &[u8]) -> Result<Record, Stop>
 
 /// The record that the bytes are.
 pub(crate) fn read(alloc: Global, bytes: &[u8]) -> Result<Record, Stop>
-    ensures { MatchResult result (λ r. IsRecord r × (bytes.now ≡ record_bytes r)) (Fails RecordTexts bytes.now) }
+    ensures { MatchResult result (λ r. IsRecord r × (bytes.now ≡ record_bytes r)) (IsWhyUnread RecordTexts bytes.now) }
 {
     let Some((tag, rest)) = bytes.split_first() else {
         return Err(Stop::Left(0));

@@ -7,7 +7,7 @@ use Rattle.std.proofs.lemmas.Fmt.{decimal-digits_of}
 use Rattle.snap_base.specs.declared.transactions.Tx.{Tx}
 use Rattle.snap_work.specs.declared.faults.WorkFault.{WorkFault}
 use Rattle.work_text.specs.Lines.{Line, words, numbered}
-use Rattle.work_text.specs.Readings.{Reading, ◌>>=◌, gives, whether}
+use Rattle.work_text.specs.Readings.{ReadingOf, ◌>>=◌, gives, whether}
 use Rattle.work_text.specs.Actors.{Named, actor}
 use Rattle.work_text.specs.Reads.{first_is_actor, transactions, tail}
 use Rattle.work_gen.specs.Generated.{drawn, transaction_line, actor_line}
@@ -16,10 +16,10 @@ use Rattle.work_gen.proofs.Methods.{program}
 use Rattle.work_gen.proofs.Plain.{plain_number, words_front}
 use Rattle.work_gen.proofs.Ranges.{is_drawn}
 
-first_by : {A : Type 0} (t : Bool) (first other : Reading A) (r : Result A WorkFault) → t ≡ true → first r → whether t first other r
+first_by : {A : Type 0} (t : Bool) (first other : ReadingOf A) (r : Result A WorkFault) → t ≡ true → first r → whether t first other r
 first_by t first other r e h = rw e h
 
-other_by : {A : Type 0} (t : Bool) (first other : Reading A) (r : Result A WorkFault) → t ≡ false → other r → whether t first other r
+other_by : {A : Type 0} (t : Bool) (first other : ReadingOf A) (r : Result A WorkFault) → t ≡ false → other r → whether t first other r
 other_by t first other r e h = rw e h
 
 -- ---- transactions
@@ -70,11 +70,11 @@ is_actor a k last lt above = (
 )
 
 -- a line that names an actor, and the lines behind it
-abbrev named_first : Option ℕ → Line → List Line → Reading (List Named × List Tx)
+abbrev named_first : Option ℕ → Line → List Line → ReadingOf (List Named × List Tx)
 named_first last l ls = actor 256 last l >>= λ n. tail program 256 (Some n.actor) ls >>= λ more. gives (n ∷ more.0, more.1)
 
 -- and one that asks for a transaction, as all behind it
-abbrev asked_first : Line → List Line → Reading (List Named × List Tx)
+abbrev asked_first : Line → List Line → ReadingOf (List Named × List Tx)
 asked_first l ls = transactions program 256 0 (l ∷ ls) >>= λ txs. gives ([], txs)
 
 abbrev pub lines_from : ℕ → ℕ → ℕ → ℕ → ℕ → List Line

@@ -7,7 +7,7 @@ use Rattle.snap_work.specs.declared.faults.WorkFault.{WorkFault}
 use Rattle.snap_work.specs.declared.faults.WorkNo.{WorkNo}
 use Rattle.snap_work.specs.declared.faults.WorkNo.TheVariants as no
 use Rattle.work_text.specs.Lines.{Line, words, says, said, next}
-use Rattle.work_text.specs.Readings.{Reading, IsNo, Goes, gives, ◌>>=◌}
+use Rattle.work_text.specs.Readings.{ReadingOf, IsNo, Goes, gives, ◌>>=◌}
 use Rattle.work_text.specs.Actors.{Named, actor, states_in}
 use Rattle.work_text.specs.Reads.{first_is_actor, tail, transactions}
 use Rattle.work_text.specs.Endings.{named_lines, states, ending}
@@ -32,13 +32,13 @@ said_none (l ∷ ls) e = none_by (says l.bytes) l ls refl e (said_none ls)
 
 -- ---- first the actors, then the transactions
 
-abbrev after : List CheckedMethod → ℕ → List Named × List Line → Reading (List Named × List Tx)
+abbrev after : List CheckedMethod → ℕ → List Named × List Line → ReadingOf (List Named × List Tx)
 after p count a = transactions p count 0 a.1 >>= λ t. gives (a.0, t)
 
-abbrev first_named : ℕ → Option ℕ → Line → List Line → Reading (List Named × List Line)
+abbrev first_named : ℕ → Option ℕ → Line → List Line → ReadingOf (List Named × List Line)
 first_named count last l ls = actor count last l >>= λ n. named_lines count (Some n.actor) ls >>= λ more. gives (n ∷ more.0, more.1)
 
-abbrev named_first : List CheckedMethod → ℕ → Option ℕ → Line → List Line → Reading (List Named × List Tx)
+abbrev named_first : List CheckedMethod → ℕ → Option ℕ → Line → List Line → ReadingOf (List Named × List Tx)
 named_first p count last l ls = actor count last l >>= λ n. tail p count (Some n.actor) ls >>= λ more. gives (n ∷ more.0, more.1)
 
 abbrev Joins : List CheckedMethod → ℕ → Option ℕ → List Line → Type 0

@@ -17,7 +17,7 @@ use Rattle.aml_check.specs.Closed.{IsClosedProgram}
 use Rattle.aml_check.specs.Transactions.{Declares, IsTransaction}
 use Rattle.snap_work.specs.declared.limits.TheConstants.{MOST_ACTORS, MOST_ACTS, MOST_BATCHES, MOST_COORDINATORS, MOST_IN_A_BATCH, MOST_LOGS, MOST_TRANSACTIONS}
 use Rattle.work_text.specs.Lines.{Line, words, numbered, said, up_to_end}
-use Rattle.work_text.specs.Readings.{Reading, gives, ◌>>=◌}
+use Rattle.work_text.specs.Readings.{ReadingOf, gives, ◌>>=◌}
 use Rattle.work_text.specs.Settings as setting
 use Rattle.work_text.specs.Actors.{Named, actor, state_with, state_in, states_in}
 use Rattle.work_text.specs.Transactions.{AreUses, DeclaresRoot, transaction}
@@ -129,31 +129,31 @@ Read = ℕ × List Line
 abbrev set_up : Read → Read → Read → Read → Read → List CheckedMethod × List Line → Read → Setup
 set_up c l b s a p n = record { coordinators = c.0; logs = l.0; batch = b.0; batches = s.0; acts = a.0; program = p.0; actors = n.0 }
 
-abbrev from_tail : Read → Read → Read → Read → Read → List CheckedMethod × List Line → Read → Reading Work
+abbrev from_tail : Read → Read → Read → Read → Read → List CheckedMethod × List Line → Read → ReadingOf Work
 from_tail c l b s a p n = tail p.0 n.0 None (said n.1) >>= λ t. gives (work_with (set_up c l b s a p n) t.0 t.1)
 
-abbrev from_actors : ℕ → Read → Read → Read → Read → Read → List CheckedMethod × List Line → Reading Work
+abbrev from_actors : ℕ → Read → Read → Read → Read → Read → List CheckedMethod × List Line → ReadingOf Work
 from_actors last c l b s a p = line last p.1 (setting.setting setting.actors) >>= λ n. from_tail c l b s a p n
 
-abbrev from_program : ℕ → Read → Read → Read → Read → Read → ℕ × List Line → Reading Work
+abbrev from_program : ℕ → Read → Read → Read → Read → Read → ℕ × List Line → ReadingOf Work
 from_program last c l b s a begin = program_lines last begin.0 (up_to_end begin.1) >>= λ p. from_actors last c l b s a p
 
-abbrev from_begin : ℕ → Read → Read → Read → Read → Read → Reading Work
+abbrev from_begin : ℕ → Read → Read → Read → Read → Read → ReadingOf Work
 from_begin last c l b s a = line last a.1 (exactly (codes "program")) >>= λ begin. from_program last c l b s a begin
 
-abbrev from_acts : ℕ → Read → Read → Read → Read → Reading Work
+abbrev from_acts : ℕ → Read → Read → Read → Read → ReadingOf Work
 from_acts last c l b s = line last s.1 (setting.setting setting.acts) >>= λ a. from_begin last c l b s a
 
-abbrev from_batches : ℕ → Read → Read → Read → Reading Work
+abbrev from_batches : ℕ → Read → Read → Read → ReadingOf Work
 from_batches last c l b = line last b.1 (setting.setting setting.batches) >>= λ s. from_acts last c l b s
 
-abbrev from_batch : ℕ → Read → Read → Reading Work
+abbrev from_batch : ℕ → Read → Read → ReadingOf Work
 from_batch last c l = line last l.1 (setting.setting setting.batch) >>= λ b. from_batches last c l b
 
-abbrev from_logs : ℕ → Read → Reading Work
+abbrev from_logs : ℕ → Read → ReadingOf Work
 from_logs last c = line last c.1 (setting.setting setting.logs) >>= λ l. from_batch last c l
 
-abbrev from_coordinators : ℕ → ℕ × List Line → Reading Work
+abbrev from_coordinators : ℕ → ℕ × List Line → ReadingOf Work
 from_coordinators last header = line last header.1 (setting.setting setting.coordinators) >>= λ c. from_logs last c
 
 pub record IsSetUp (s : Setup) : Type 0 where

@@ -9,7 +9,7 @@ use Rattle.snap_base.specs.declared.transactions.State.{State}
 use Rattle.snap_base.specs.declared.transactions.Tx.{Tx}
 use Rattle.aml_tree.specs.Tree.{CheckedMethod}
 use Rattle.work_text.specs.Lines.{Line, numbered}
-use Rattle.work_text.specs.Readings.{IsNo, Is, Reading, gives, ◌>>=◌}
+use Rattle.work_text.specs.Readings.{IsNo, Is, ReadingOf, gives, ◌>>=◌}
 use Rattle.work_text.specs.Reads.{work_with, tail, line, program_lines, reads_lines, Reads, IsFirstWorkFault}
 use Rattle.snap_work.specs.declared.faults.WorkFault.{WorkFault}
 use Rattle.work_text.specs.Actors.{states_in}
@@ -18,7 +18,7 @@ use Rattle.work_text.specs.Endings.{ending}
 use Rattle.snap_work.specs.declared.faults.WorkNo.{WorkNo}
 use Rattle.snap_work.specs.declared.faults.WorkNo.TheVariants as no
 
-abbrev pub whole : ℕ → ℕ → ℕ → ℕ → ℕ → List CheckedMethod → ℕ → List Line → Reading Work
+abbrev pub whole : ℕ → ℕ → ℕ → ℕ → ℕ → List CheckedMethod → ℕ → List Line → ReadingOf Work
 whole c l b s a p n ls = tail p n None ls >>= λ t. gives (work_with (record { coordinators = c; logs = l; batch = b; batches = s; acts = a; program = p; actors = n }) t.0 t.1)
 
 abbrev pub put : ℕ → ℕ → ℕ → ℕ → ℕ → List CheckedMethod → List State × List Tx → Work
@@ -39,10 +39,10 @@ pub whole_put : (c l b s a : ℕ) (p : List CheckedMethod) (n : ℕ) (ls : List 
 whole_put c l b s a p n ls x w e h = rw e (whole_found c l b s a p n ls x h)
 
 -- the number behind the last line is one
-pub at_last : {A : Type 0} (m n : ℕ) (ls : List Line) (reading : Line → Reading A) (x : Result (A × List Line) WorkFault) → m ≡ n → line m ls reading x → line n ls reading x
+pub at_last : {A : Type 0} (m n : ℕ) (ls : List Line) (reading : Line → ReadingOf A) (x : Result (A × List Line) WorkFault) → m ≡ n → line m ls reading x → line n ls reading x
 at_last m n ls reading x e h = rw e at h
 
-pub no_at_last : {A : Type 0} (m n : ℕ) (ls : List Line) (reading : Line → Reading A) (f : WorkNo) → m ≡ n → IsNo (line m ls reading) f → IsNo (line n ls reading) f
+pub no_at_last : {A : Type 0} (m n : ℕ) (ls : List Line) (reading : Line → ReadingOf A) (f : WorkNo) → m ≡ n → IsNo (line m ls reading) f → IsNo (line n ls reading) f
 no_at_last m n ls reading (no.Fault f) e h = rw e at h
 no_at_last m n ls reading no.Memory e h = tt
 

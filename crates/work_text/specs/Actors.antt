@@ -9,7 +9,7 @@ use Rattle.snap_work.specs.declared.faults.Limit.TheVariants as limit
 use Rattle.snap_work.specs.declared.faults.WorkCause.{WorkCause}
 use Rattle.snap_work.specs.declared.faults.WorkCause.TheVariants as cause
 use Rattle.work_text.specs.Lines.{Line, words}
-use Rattle.work_text.specs.Readings.{Reading}
+use Rattle.work_text.specs.Readings.{ReadingOf}
 
 -- an actor and the values of its first fields
 pub record Named : Type 0 where
@@ -33,7 +33,7 @@ ActorFault actors last line (cause.Program p) = ⊥
 ActorFault actors last line cause.BadTx = ⊥
 ActorFault actors last line cause.RootNotDeclared = ⊥
 
-abbrev pub actor : ℕ → Option ℕ → Line → Reading Named
+abbrev pub actor : ℕ → Option ℕ → Line → ReadingOf Named
 actor actors last line (Ok n) = Names actors last line.bytes n × (length n.values ≤ FIELDS)
 actor actors last line (Err f) = (f.line ≡ line.number) × ActorFault actors last line.bytes f.cause
 

@@ -19,7 +19,7 @@ use Rattle.snap_work.specs.declared.faults.WorkFault.{WorkFault}
 use Rattle.snap_work.specs.declared.limits.TheConstants.{LONGEST_WORK}
 use Rattle.work_text.specs.Lines.{Line, text_of, words, numbered, said, next, up_to_end}
 use Rattle.snap_work.specs.Works.{Work}
-use Rattle.work_text.specs.Readings.{Reading, gives, fails, ◌>>=◌, only, whether}
+use Rattle.work_text.specs.Readings.{ReadingOf, gives, fails, ◌>>=◌, only, whether}
 use Rattle.work_text.specs.Settings.{setting, coordinators, logs, batch, batches, acts, actors}
 use Rattle.work_text.specs.Actors.{Named, actor, states_in}
 use Rattle.work_text.specs.Transactions.{transaction}
@@ -27,15 +27,15 @@ use Rattle.work_text.specs.Transactions.{transaction}
 -- ---- lines one after the other; last, the number behind that of the text's last line
 
 -- a reading of the next line that says something, and the lines behind it; a text must not end before it
-abbrev pub by_next : {A : Type 0} → ℕ → Option (Line × List Line) → (Line → Reading A) → Reading (A × List Line)
+abbrev pub by_next : {A : Type 0} → ℕ → Option (Line × List Line) → (Line → ReadingOf A) → ReadingOf (A × List Line)
 by_next last None reading = fails last cause.BadHeader
 by_next last (Some found) reading = reading found.0 >>= λ x. gives (x, found.1)
 
-abbrev pub line : {A : Type 0} → ℕ → List Line → (Line → Reading A) → Reading (A × List Line)
+abbrev pub line : {A : Type 0} → ℕ → List Line → (Line → ReadingOf A) → ReadingOf (A × List Line)
 line last ls reading = by_next last (next ls) reading
 
 -- a line that is just this, and its number
-abbrev pub exactly : List ℕ → Line → Reading ℕ
+abbrev pub exactly : List ℕ → Line → ReadingOf ℕ
 exactly bytes l = only (bytes_eq l.bytes bytes) l.number cause.BadHeader (gives l.number)
 
 -- ---- the program
@@ -57,12 +57,12 @@ IsProgramFault before bytes line cause.BadTx = ⊥
 IsProgramFault before bytes line (cause.Limit which found) = ⊥
 IsProgramFault before bytes line cause.RootNotDeclared = ⊥
 
-abbrev pub program_text : ℕ → List ℕ → Reading (List CheckedMethod)
+abbrev pub program_text : ℕ → List ℕ → ReadingOf (List CheckedMethod)
 program_text before bytes (Ok c) = (p : List TextMethod) × IsProgramText bytes p × check.IsCheckedProgram p c
 program_text before bytes (Err f) = IsProgramFault before bytes f.line f.cause
 
 -- the lines up to `end`, and those behind it; the program is read when its end is reached
-abbrev pub program_lines : ℕ → ℕ → Option (List (List ℕ) × List Line) → Reading (List CheckedMethod × List Line)
+abbrev pub program_lines : ℕ → ℕ → Option (List (List ℕ) × List Line) → ReadingOf (List CheckedMethod × List Line)
 program_lines last before None = fails last cause.BadHeader
 program_lines last before (Some cut) = program_text before (text_of cut.0) >>= λ p. gives (p, cut.1)
 
@@ -74,13 +74,13 @@ first_is_actor [] = false
 first_is_actor (word ∷ more) = bytes_eq word (codes "actor")
 
 -- the transactions that lines ask for, behind so many
-abbrev pub transactions : List CheckedMethod → ℕ → ℕ → List Line → Reading (List Tx)
+abbrev pub transactions : List CheckedMethod → ℕ → ℕ → List Line → ReadingOf (List Tx)
 transactions p count before [] = gives []
 transactions p count before (l ∷ ls) =
     transaction p count before l >>= λ tx. transactions p count (before + 1) ls >>= λ more. gives (tx ∷ more)
 
 -- the actors that lines name, and the transactions behind them; the actor named last, if any
-abbrev pub tail : List CheckedMethod → ℕ → Option ℕ → List Line → Reading (List Named × List Tx)
+abbrev pub tail : List CheckedMethod → ℕ → Option ℕ → List Line → ReadingOf (List Named × List Tx)
 tail p count before [] = gives ([], [])
 tail p count before (l ∷ ls) =
     whether (first_is_actor (words l.bytes))
@@ -112,7 +112,7 @@ work_with setup named txs = record {
 }
 
 -- the lines in their order
-abbrev pub reads_lines : ℕ → List Line → Reading Work
+abbrev pub reads_lines : ℕ → List Line → ReadingOf Work
 reads_lines last ls = do
   header ← line last ls (exactly (codes "snapper 1"))
   c ← line last header.1 (setting coordinators)
@@ -133,12 +133,12 @@ pub record EndsUtf8 (text : List ℕ) (at : ℕ) : Type 0 where
   pub longest : (n : ℕ) → at < n → n ≤ length text → ¬ IsUtf8 (take n text)
 
 -- a text that is not UTF-8 has its fault in the line where its longest front ends that is
-abbrev pub not_utf8 : List ℕ → Reading Work
+abbrev pub not_utf8 : List ℕ → ReadingOf Work
 not_utf8 text (Ok x) = ⊥
 not_utf8 text (Err f) = (at : ℕ) × EndsUtf8 text at × (f ≡ record { line = 1 + count_by (λ b. b == 10) (take at text); cause = cause.NotUtf8 })
 
 -- What the text is read as: its size is asked first, then UTF-8, then line by line.
-abbrev pub Reads : List ℕ → Reading Work
+abbrev pub Reads : List ℕ → ReadingOf Work
 Reads text read =
     ((LONGEST_WORK < length text) × (read ≡ Err (record { line = 0; cause = cause.Limit limit.Input (1 + LONGEST_WORK) })))
     ⊎ ((length text ≤ LONGEST_WORK) × not_utf8 text read)

@@ -7,7 +7,7 @@ use Rattle.snap_work.specs.declared.faults.WorkCause.{WorkCause}
 use Rattle.snap_work.specs.declared.faults.WorkCause.TheVariants as cause
 use Rattle.snap_work.specs.declared.limits.TheConstants.{MOST_ACTORS, MOST_ACTS, MOST_BATCHES, MOST_COORDINATORS, MOST_IN_A_BATCH, MOST_LOGS}
 use Rattle.work_text.specs.Lines.{Line}
-use Rattle.work_text.specs.Readings.{Reading}
+use Rattle.work_text.specs.Readings.{ReadingOf}
 
 -- the word of a setting with the blank behind it, the greatest number, and which limit it is
 pub record Setting : Type 0 where
@@ -47,6 +47,6 @@ SettingFault s line cause.BadTx = ⊥
 SettingFault s line cause.RootNotDeclared = ⊥
 
 -- the number that a line sets, from 1 on
-abbrev pub setting : Setting → Line → Reading ℕ
+abbrev pub setting : Setting → Line → ReadingOf ℕ
 setting s line (Ok n) = Sets s line.bytes n × (1 ≤ n) × (n ≤ s.most)
 setting s line (Err f) = (f.line ≡ line.number) × SettingFault s line.bytes f.cause

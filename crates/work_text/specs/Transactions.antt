@@ -17,7 +17,7 @@ use Rattle.snap_work.specs.declared.faults.WorkCause.{WorkCause}
 use Rattle.snap_work.specs.declared.faults.WorkCause.TheVariants as cause
 use Rattle.snap_work.specs.declared.limits.TheConstants.{MOST_TRANSACTIONS}
 use Rattle.work_text.specs.Lines.{Line, words}
-use Rattle.work_text.specs.Readings.{Reading}
+use Rattle.work_text.specs.Readings.{ReadingOf}
 
 -- ---- words
 
@@ -82,6 +82,6 @@ TransactionFault p actors before line cause.BadHeader = ⊥
 TransactionFault p actors before line (cause.Program q) = ⊥
 TransactionFault p actors before line cause.BadActor = ⊥
 
-abbrev pub transaction : List CheckedMethod → ℕ → ℕ → Line → Reading Tx
+abbrev pub transaction : List CheckedMethod → ℕ → ℕ → Line → ReadingOf Tx
 transaction p actors before line (Ok tx) = Asks p actors line.bytes tx × (length tx.uses ≤ MOST_CALLED_ACTORS) × (before < MOST_TRANSACTIONS) × DeclaresRoot tx.kind tx.actor.0 tx.uses
 transaction p actors before line (Err f) = (f.line ≡ line.number) × TransactionFault p actors before line.bytes f.cause

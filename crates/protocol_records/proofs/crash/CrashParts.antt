@@ -22,7 +22,7 @@ use Rattle.protocol_theorems.specs.Order.{LeavesIt}
 use Rattle.protocol.specs.Chains.{serial_run}
 use Rattle.protocol.specs.Moments.{IsCut, left_in}
 use Rattle.protocol_records.specs.Logged.{durable_at, logged_at, is_sure, is_written, WrittenHaveValues, BatchesSure, Infos, InfoIs, ActsSure, ActCommits, AllGoneSure, AllKeptSure, AllThere, AllHaveRead, AllDoneSure, ActsStand, OnJoined, Prepared, is_on}
-use Rattle.protocol_records.specs.Telling.{One, told_states, AllTells, Telling, last_one, writes, Recovers, ToldRead, ToldReads, is_uncommitted_writer, NoneLater, AllNoneLater, AllAside}
+use Rattle.protocol_records.specs.Telling.{One, told_states, AllTells, Telling, last_one, writes, RecoversEachActor, ToldRead, ToldReads, is_uncommitted_writer, NoneLater, AllNoneLater, AllAside}
 use Rattle.protocol_records.specs.Crash.{is_in, tells_member_state, last_told, recovered_state, members, NoneMissed}
 use Rattle.protocol_laws.proofs.machine.Good.{Given}
 use Rattle.protocol_laws.proofs.machine.AllGood.{AllGood, all_good, along_good}
@@ -88,7 +88,7 @@ pub none_logged : (p : LogRecord → Bool) (n l : ℕ) → logged_at p (replicat
 none_logged p n l h = true≢false (sym h ∙ ap (list_any p) (no_records n l))
 
 pub logs_opened : {C : Type 0} (w : Fixed C) → Logs w (opening w) no_history
-unfolding WrittenHaveValues BatchesSure Infos Filled ActsSure ActCommits AllGoneSure AllKeptSure AllThere AllDoneSure ActsStand OnJoined Prepared Telling Recovers
+unfolding WrittenHaveValues BatchesSure Infos Filled ActsSure ActCommits AllGoneSure AllKeptSure AllThere AllDoneSure ActsStand OnJoined Prepared Telling RecoversEachActor
 logs_opened w = record {
   written = λ y e. none y e;
   batches = λ k b e. absurd (cc e);
@@ -209,7 +209,7 @@ done_hold w Of finish es v run = (along_good w Of finish (Followed w Of finish) 
 -- along a run
 record Recovering {C : Type 0} (w : Fixed C) (Of : Tx → C → Type 0) (finish : C → List State → Alone) (s : Machine C) (h : History) : Type 0 where
   followed : Followed w Of finish s h
-  recovers : Recovers w s h
+  recovers : RecoversEachActor w s h
   reads : ToldReads w s h
   none_later : AllNoneLater w s h
   aside : AllAside w s h
@@ -232,7 +232,7 @@ none_counted p [] k = refl
 none_counted p (o ∷ os) k = rw (k o, none_counted p os k) refl
 
 recovering_opened : {C : Type 0} (w : Fixed C) (Of : Tx → C → Type 0) (finish : C → List State → Alone) → Given w Of finish → Recovering w Of finish (opening w) no_history
-unfolding Recovers ToldReads AllNoneLater AllAside
+unfolding RecoversEachActor ToldReads AllNoneLater AllAside
 recovering_opened w Of finish v = record {
   followed = followed_opened w Of finish v;
   recovers = λ a P f. ap (last_one (slice_index_or w.text.opening.states a no_state)) (none_counted (λ o. P o.who && false) (told_states a (slice_index_or (replicate w.text.logs no_log) (a % w.text.logs) no_log).records) (λ o. and_false (P o.who)));
@@ -273,7 +273,7 @@ with_readers a first P ds m v l =
 
 recovered_is : {C : Type 0} (w : Fixed C) (Of : Tx → C → Type 0) (finish : C → List State → Alone) (s : Machine C) (h : History) (kept : ℕ → ℕ) (a : ℕ) → IsCut s kept → AllGood w Of finish s h → Recovering w Of finish s h → NoneBehind w s kept a
     → recovered_state w.text.logs (left_in s kept) a (slice_index_or w.text.opening.states a no_state) ≡ last_state a (slice_index_or w.text.opening.states a no_state) (members w.text.logs (left_in s kept) h)
-unfolding NoneBehind AllKeptSure Recovers AllAside Committed
+unfolding NoneBehind AllKeptSure RecoversEachActor AllAside Committed
 recovered_is w Of finish s h kept a c g l n =
     counted w.text.logs a (left_in s kept) first (left_in s kept (a % w.text.logs))
     ∙ (ap (last_one first) (sym (append-nil (filter inside (told_states a (left_in s kept (a % w.text.logs))))) ∙ (ap (λ z. filter inside (told_states a (left_in s kept (a % w.text.logs))) ++ z) (sym n) ∙ (sym (filter_join inside (told_states a (left_in s kept (a % w.text.logs))) (told_states a (drop (kept (a % w.text.logs)) (log_at s (a % w.text.logs)).records)))

@@ -20,7 +20,7 @@ use Rattle.protocol.specs.History.{History, Slice, Ran, grown, not_run, complete
 use Rattle.protocol_laws.specs.Tracks.{keys_in, is_key_among, has_read}
 use Rattle.protocol_laws.specs.Commits.{is_kept, last_state, reads_who}
 use Rattle.protocol_records.specs.Logged.{is_sure, is_on, has_joined, BatchesSure, ActsSure, AllKeptSure, ActsStand, OnJoined, Prepared, AllThere}
-use Rattle.protocol_records.specs.Telling.{One, told_states, names, AllTells, Telling, last_one, writes, Recovers, ToldRead, ToldReads, is_uncommitted_writer, NoneLater, AllNoneLater, AllAside}
+use Rattle.protocol_records.specs.Telling.{One, told_states, names, AllTells, Telling, last_one, writes, RecoversEachActor, ToldRead, ToldReads, is_uncommitted_writer, NoneLater, AllNoneLater, AllAside}
 use Rattle.protocol_laws.proofs.machine.TrackLists
 use Rattle.protocol_laws.proofs.machine.TracksKept.{Tracked, held}
 use Rattle.protocol_laws.proofs.machine.TurnsKept.{one_is}
@@ -310,9 +310,9 @@ last_is_now w Of finish t a s h sure P ok g su up th wh r =
     seen : is_some (view_in t (h.reads a)) ≡ true
     seen = subst (λ n. is_some (view_in n (h.reads a)) ≡ true) r.may.tid (subst (λ v. is_some (view_in r.act.tid (slices_for v r.act.tid (h.reads a) (h.long a))) ≡ true) r.reader r.view)
 
-pub aside_kept : {C : Type 0} (w : Fixed C) (Of : Tx → C → Type 0) (finish : C → List State → Alone) (e : Event) (s : Machine C) (h : History) → Given w Of finish → IsAllowed w e s → AllGood w Of finish s h → Whole w Of finish s h → BatchesSure w s → ActsSure w s → ActsStand s h → OnJoined s h → Prepared w s → AllThere h → Telling w s h → SureOf (is_sure w.text.logs s.logs) s h → AllKeptSure w s h → Recovers w s h → ToldReads w s h → AllNoneLater w s h → AllAside w s h
+pub aside_kept : {C : Type 0} (w : Fixed C) (Of : Tx → C → Type 0) (finish : C → List State → Alone) (e : Event) (s : Machine C) (h : History) → Given w Of finish → IsAllowed w e s → AllGood w Of finish s h → Whole w Of finish s h → BatchesSure w s → ActsSure w s → ActsStand s h → OnJoined s h → Prepared w s → AllThere h → Telling w s h → SureOf (is_sure w.text.logs s.logs) s h → AllKeptSure w s h → RecoversEachActor w s h → ToldReads w s h → AllNoneLater w s h → AllAside w s h
     → AllAside w (after w e s) (grown w e s h)
-unfolding AllAside AllNoneLater AllKeptSure Recovers ToldReads grown after
+unfolding AllAside AllNoneLater AllKeptSure RecoversEachActor ToldReads grown after
 aside_kept w Of finish (Commit k) s h v ok g wh b su st j pr th te so ks rc tr nl q = λ a P up.
     let c = one_batch w Of finish k a s h v ok g b st pr th te wh in
     subst (IsAside (first_of w a) P (h.kept ++ OfBatch k ∷ []) h.kept_readers) (sym (told_same a _ s.logs (k % w.text.logs) (a % w.text.logs) refl))

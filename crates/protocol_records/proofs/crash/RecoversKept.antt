@@ -19,7 +19,7 @@ use Rattle.protocol_laws.specs.Tracks.{keys_in, Differ, Linked}
 use Rattle.protocol_laws.specs.Commits.{is_kept, StatesLink, last_state, kept_slices, reads_who}
 use Rattle.protocol_laws.specs.Marks.{is_done, Recorded, Marked}
 use Rattle.protocol_records.specs.Logged.{durable_at, logged_at, is_on, has_joined, BatchesSure, ActsSure, ActsStand, OnJoined, Prepared, IsThere, AllThere}
-use Rattle.protocol_records.specs.Telling.{One, told_states, names, Telling, FrontIn, last_one, writes, RecoversAt, Recovers}
+use Rattle.protocol_records.specs.Telling.{One, told_states, names, Telling, FrontIn, last_one, writes, RecoversAt, RecoversEachActor}
 use Rattle.protocol_laws.proofs.machine.TrackLists
 use Rattle.protocol_laws.proofs.machine.TracksKept.{Tracked}
 use Rattle.protocol_laws.proofs.machine.TurnsKept.{one_is}
@@ -286,8 +286,8 @@ one_out P d e = off (P d.who) (writes d) e
     off true false e = refl
     off false c e = refl
 
-pub recovers_kept : {C : Type 0} (w : Fixed C) (Of : Tx → C → Type 0) (finish : C → List State → Alone) (e : Event) (s : Machine C) (h : History) → Given w Of finish → IsAllowed w e s → AllGood w Of finish s h → BatchesSure w s → ActsSure w s → ActsStand s h → OnJoined s h → Prepared w s → AllThere h → Telling w s h → Whole w Of finish s h → Recovers w s h → Recovers w (after w e s) (grown w e s h)
-unfolding Recovers Committed grown chain.Assumed after
+pub recovers_kept : {C : Type 0} (w : Fixed C) (Of : Tx → C → Type 0) (finish : C → List State → Alone) (e : Event) (s : Machine C) (h : History) → Given w Of finish → IsAllowed w e s → AllGood w Of finish s h → BatchesSure w s → ActsSure w s → ActsStand s h → OnJoined s h → Prepared w s → AllThere h → Telling w s h → Whole w Of finish s h → RecoversEachActor w s h → RecoversEachActor w (after w e s) (grown w e s h)
+unfolding RecoversEachActor Committed grown chain.Assumed after
 recovers_kept w Of finish (Commit k) s h v ok g b su st j pr th te wh r = λ a.
     subst (RecoversAt a (first_of w a) (h.kept ++ OfBatch k ∷ []) (h.committed ++ done_batch k h (batch_of k s.desk.batches)) (h.long a)) (sym (told_same a _ s.logs (k % w.text.logs) (a % w.text.logs) refl))
     (recovers_commit a (reads_who s.book.acts) (first_of w a) h.kept h.committed (done_batch k h (batch_of k s.desk.batches)) (OfBatch k) (h.long a) (told_states a (log_at s (a % w.text.logs)).records) (one_batch w Of finish k a s h v ok g b st pr th te wh) (r a))

@@ -15,7 +15,7 @@ use Rattle.protocol.specs.Conditions.{IsAllowed}
 use Rattle.protocol.specs.Effects.{after}
 use Rattle.protocol.specs.Runs.{opening, state_after, EachAllowed, IsRun, reached}
 use Rattle.protocol.specs.History.{History, no_history, grown}
-use Rattle.protocol_verdicts.specs.Evidence.{IsAct, IsPact, IsOfAct, IsOfPact, Gives, EvidenceStands, VerdictsStay, VerdictsStand}
+use Rattle.protocol_verdicts.specs.Evidence.{IsActOfTransaction, IsPact, IsOfAct, IsOfPact, Gives, EvidenceStands, VerdictsStay, VerdictsStand}
 use Rattle.protocol_laws.specs.Told.{EachAct}
 use Rattle.protocol_laws.proofs.machine.Good.{Given}
 use Rattle.protocol_laws.proofs.machine.AllGood.{AllGood, none_allowed}
@@ -165,7 +165,7 @@ no_kinds w = record { acts = λ t x e. absurd (cc e); pacts = λ k b e. absurd (
 of_pacts : {C : Type 0} (w : Fixed C) (Of : Tx → C → Type 0) (finish : C → List State → Alone) (s : Machine C) → Ends w Of finish s → (n k : ℕ) (b : Batch) (p : Pact) (u : Verdict) → IsPact n k b p s → told n s ≡ Some u → IsOfPact u
 of_pacts w Of finish s e n k b p u i q = e.kinds.pacts k b i.found n u (sym (by_pact s n k b p (e.once n) i.found i.named) ∙ q)
 
-of_acts : {C : Type 0} (w : Fixed C) (Of : Tx → C → Type 0) (finish : C → List State → Alone) (s : Machine C) → Ends w Of finish s → (n t : ℕ) (x : Act) (u : Verdict) → IsAct n t x s → told n s ≡ Some u → IsOfAct u
+of_acts : {C : Type 0} (w : Fixed C) (Of : Tx → C → Type 0) (finish : C → List State → Alone) (s : Machine C) → Ends w Of finish s → (n t : ℕ) (x : Act) (u : Verdict) → IsActOfTransaction n t x s → told n s ≡ Some u → IsOfAct u
 of_acts w Of finish s e n t x u i q = e.kinds.acts t x i.found u (sym (by_act s n t x (e.once n) i.found i.tx) ∙ q)
 
 -- ---- the law

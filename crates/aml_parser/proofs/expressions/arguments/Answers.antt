@@ -3,7 +3,7 @@ use Rattle.std.proofs.lemmas.Result.{err_from_is_err_and}
 use Rattle.aml_tokens.specs.Token.{tokens_of}
 use Rattle.aml_tree.specs.Tree.{expression_tree}
 use Rattle.aml_parser.specs.Items.{Arguments, Closer, Expression}
-use Rattle.aml_parser.specs.Reading.{Stops}
+use Rattle.aml_parser.specs.Reading.{StopsAt}
 use Rattle.aml_parser.proofs.Steps.{falls}
 use Rattle.aml_parser.proofs.ArgumentSteps.{no_arguments, arguing_begins, arguing_goes, arguing_ends, arguing_stops, arguing_none}
 use Rattle.aml_parser.proofs.expressions.arguments.Goals as goal
@@ -18,7 +18,7 @@ pub returns-in_err-value-clause-reads : goal.returns-in_err-value-clause-reads
 returns-in_err-value-clause-reads c =
     let p = err_from_is_err_and c.from_residual.result c.from_residual.ensures.1 in
     rw (p.1, p.2) (falls c.in_err-value.field-0.0 c.in_err-value.ensures.reads
-    (λ fault (h : (closer : Closer) (names : ℕ) → Stops (tokens_of c.args.tokens.now) (Expression c.args.depth closer ∷ []) names c.loop-arguments.end fault). arguing_stops (tokens_of c.args.tokens.now) c.args.depth c.args.at c.loop-arguments.end (map expression_tree c.loop-arguments.arguments.items) fault c.loop-arguments.invariant.so_far (h Arguments)))
+    (λ fault (h : (closer : Closer) (names : ℕ) → StopsAt (tokens_of c.args.tokens.now) (Expression c.args.depth closer ∷ []) names c.loop-arguments.end fault). arguing_stops (tokens_of c.args.tokens.now) c.args.depth c.args.at c.loop-arguments.end (map expression_tree c.loop-arguments.arguments.items) fault c.loop-arguments.invariant.so_far (h Arguments)))
 
 pub returns-then-is_close_at-2-clause-reads : goal.returns-then-is_close_at-2-clause-reads
 returns-then-is_close_at-2-clause-reads c =

@@ -3,7 +3,7 @@ use Rattle.std.proofs.lemmas.Result.{err_from_is_err_and}
 use Rattle.aml_tokens.specs.Token.{tokens_of}
 use Rattle.aml_tree.specs.Tree.{expression_tree, statement_tree}
 use Rattle.aml_parser.specs.Items.{Letting}
-use Rattle.aml_parser.specs.Reading.{Stops}
+use Rattle.aml_parser.specs.Reading.{StopsAt}
 use Rattle.aml_parser.proofs.Steps.{falls}
 use Rattle.aml_parser.proofs.Lets.{let_reads, let_value_reads, let_name_stops, let_sign_stops, let_rest_stops, let_end_stops}
 use Rattle.aml_parser.proofs.statements.let_at.Goals as goal
@@ -23,7 +23,7 @@ pub returns-in_err-statement-clause-reads : goal.returns-in_err-statement-clause
 returns-in_err-statement-clause-reads c =
     let p = err_from_is_err_and c.from_residual-in_err-statement.result c.from_residual-in_err-statement.ensures.1 in
     rw (p.1, p.2) (falls c.in_err-statement.field-0.0 c.in_err-statement.ensures.reads
-    (λ fault (h : (names : ℕ) → Stops (tokens_of c.args.tokens.now) (Letting c.args.depth ∷ []) names c.in_ok-start.start fault). let_rest_stops (tokens_of c.args.tokens.now) c.args.depth c.args.names c.args.at c.args.line c.in_ok-variable.behind c.in_ok-start.start c.in_ok-variable.variable fault c.requires.there c.in_ok-variable.ensures.reads c.in_ok-start.ensures.reads (h (c.args.names + 1))))
+    (λ fault (h : (names : ℕ) → StopsAt (tokens_of c.args.tokens.now) (Letting c.args.depth ∷ []) names c.in_ok-start.start fault). let_rest_stops (tokens_of c.args.tokens.now) c.args.depth c.args.names c.args.at c.args.line c.in_ok-variable.behind c.in_ok-start.start c.in_ok-variable.variable fault c.requires.there c.in_ok-variable.ensures.reads c.in_ok-start.ensures.reads (h (c.args.names + 1))))
 
 pub returns-then-is_call_at-clause-reads : goal.returns-then-is_call_at-clause-reads
 returns-then-is_call_at-clause-reads c =

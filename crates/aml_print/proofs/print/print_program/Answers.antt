@@ -5,7 +5,7 @@ use Rattle.aml_tokens.specs.declared.limits.TheConstants.{LONGEST_PROGRAM}
 use Rattle.aml_tokens.specs.Writing.{Written}
 use Rattle.aml_tree.specs.Tree.{program_tree}
 use Rattle.aml_tree.specs.Grammar.{program_spelling}
-use Rattle.aml_tree.specs.Programs.{IsProgram, IsTextOf}
+use Rattle.aml_tree.specs.Programs.{IsProgram, IsTextOfProgram}
 use Rattle.aml_print.specs.Printing.{after}
 use Rattle.aml_print.proofs.PrintingLines.{line_of, after_is, printed, printed_again}
 use Rattle.aml_print.proofs.PrintingTokens.{program_tokens}
@@ -20,6 +20,6 @@ returns c =
     c.text_of.ensures (subst IsUtf8 (sym bytes) (IsUtf8-from_ascii (line_of (program_tree c.args.program.now)) (c.tokens_are_read.ensures.ascii (program_spelling (program_tree c.args.program.now)) (program_tokens (program_tree c.args.program.now) h.grammar.methods)))) ∙ bytes in
     record {
       written = line;
-      read = λ h fits. subst (λ (text : List ℕ). IsTextOf text (program_tree c.args.program.now)) (sym (line h)) (printed c.tokens_are_read.ensures.read (program_tree c.args.program.now) h (subst (λ (text : List ℕ). length text ≤ LONGEST_PROGRAM) (line h) fits));
-      again = λ source h. subst (λ (text : List ℕ). IsTextOf text (program_tree c.args.program.now)) (sym (line h.program)) (printed_again c.written_is_read.ensures (program_tree c.args.program.now) source h);
+      read = λ h fits. subst (λ (text : List ℕ). IsTextOfProgram text (program_tree c.args.program.now)) (sym (line h)) (printed c.tokens_are_read.ensures.read (program_tree c.args.program.now) h (subst (λ (text : List ℕ). length text ≤ LONGEST_PROGRAM) (line h) fits));
+      again = λ source h. subst (λ (text : List ℕ). IsTextOfProgram text (program_tree c.args.program.now)) (sym (line h.program)) (printed_again c.written_is_read.ensures (program_tree c.args.program.now) source h);
     }

@@ -3,7 +3,7 @@ use Rattle.std.proofs.lemmas.Result.{err_from_is_err_and}
 use Rattle.aml_tokens.specs.declared.tokens.Word.{Word}
 use Rattle.aml_tree.specs.Tree.{Onto, expression_tree, method_tree, statement_tree, block_tree}
 use Rattle.aml_resolver.specs.Faults.{faults, block_faults}
-use Rattle.aml_resolver.specs.Resolving.{Steps}
+use Rattle.aml_resolver.specs.Resolving.{StepsTo}
 use Rattle.aml_resolver.proofs.Chains.{refuses_more, refuses_behind}
 use Rattle.aml_resolver.proofs.StatementSteps.{none_yet, block_goes, block_refuses, room_first, room_next, if_goes, if_else_goes, while_goes, fail_goes}
 use Rattle.aml_tree.specs.TreeRules.{tree_of_let, tree_of_call, tree_of_set, tree_of_field, tree_of_if, tree_of_if_else, tree_of_while, tree_of_fail, tree_of_return}
@@ -28,27 +28,27 @@ block-loop-at-preserved t c =
 
 pub statement-returns-in-Let : goal.statement-returns-in-Let
 statement-returns-in-Let t c =
-    let P : Onto Word Word → Type 0 = λ o. Steps (map method_tree c.args.methods.now) c.args.is_read c.args.names.now.items c.let_statement.new.names.items o c.let_statement.result in
+    let P : Onto Word Word → Type 0 = λ o. StepsTo (map method_tree c.args.methods.now) c.args.is_read c.args.names.now.items c.let_statement.new.names.items o c.let_statement.result in
     rw c.in-Let.is (subst P (sym (tree_of_let c.in-Let.line c.in-Let.variable c.in-Let.value)) (c.let_statement.ensures c.args.is_read))
 
 pub statement-returns-in-Call : goal.statement-returns-in-Call
 statement-returns-in-Call t c =
-    let P : Onto Word Word → Type 0 = λ o. Steps (map method_tree c.args.methods.now) c.args.is_read c.args.names.now.items c.call_statement.new.names.items o c.call_statement.result in
+    let P : Onto Word Word → Type 0 = λ o. StepsTo (map method_tree c.args.methods.now) c.args.is_read c.args.names.now.items c.call_statement.new.names.items o c.call_statement.result in
     rw c.in-Call.is (subst P (sym (tree_of_call c.in-Call.line c.in-Call.variable c.in-Call.target c.in-Call.method c.in-Call.arguments)) (rw c.deref.ensures.value at c.call_statement.ensures))
 
 pub statement-returns-in-Set : goal.statement-returns-in-Set
 statement-returns-in-Set t c =
-    let P : Onto Word Word → Type 0 = λ o. Steps (map method_tree c.args.methods.now) c.args.is_read c.args.names.now.items c.args.names.now.items o c.set_statement.result in
+    let P : Onto Word Word → Type 0 = λ o. StepsTo (map method_tree c.args.methods.now) c.args.is_read c.args.names.now.items c.args.names.now.items o c.set_statement.result in
     rw c.in-Set.is (subst P (sym (tree_of_set c.in-Set.variable c.in-Set.value)) ((rw c.as_slice.ensures.value at c.set_statement.ensures) c.args.is_read))
 
 pub statement-returns-in-SetField : goal.statement-returns-in-SetField
 statement-returns-in-SetField t c =
-    let P : Onto Word Word → Type 0 = λ o. Steps (map method_tree c.args.methods.now) c.args.is_read c.args.names.now.items c.args.names.now.items o c.field_statement.result in
+    let P : Onto Word Word → Type 0 = λ o. StepsTo (map method_tree c.args.methods.now) c.args.is_read c.args.names.now.items c.args.names.now.items o c.field_statement.result in
     rw c.in-SetField.is (subst P (sym (tree_of_field c.in-SetField.line c.in-SetField.field c.in-SetField.value)) (rw c.as_slice-in-SetField.ensures.value at c.field_statement.ensures))
 
 pub statement-returns-in-Return : goal.statement-returns-in-Return
 statement-returns-in-Return t c =
-    let P : Onto Word Word → Type 0 = λ o. Steps (map method_tree c.args.methods.now) c.args.is_read c.args.names.now.items c.args.names.now.items o c.return_statement.result in
+    let P : Onto Word Word → Type 0 = λ o. StepsTo (map method_tree c.args.methods.now) c.args.is_read c.args.names.now.items c.args.names.now.items o c.return_statement.result in
     rw c.in-Return.is (subst P (sym (tree_of_return c.in-Return.value)) ((rw c.as_slice-in-Return.ensures.value at c.return_statement.ensures) c.args.is_read))
 
 pub statement-returns-in-Fail : goal.statement-returns-in-Fail

@@ -1,7 +1,7 @@
 use Rattle.std.proofs.Common.{drop}
-use Rattle.aml_slice.specs.Controls.{IsLeft}
+use Rattle.aml_slice.specs.Controls.{IsCallLeft}
 use Rattle.aml_slice.proofs.allowances.is_left.Given as goal
 
 -- what is left is left behind this place
 abbrev pub invariant-loop-one : goal.invariant-loop-one
-invariant-loop-one l = IsLeft l.uses l.actor → IsLeft (drop l.one-index l.uses) l.actor
+invariant-loop-one l = IsCallLeft l.uses l.actor → IsCallLeft (drop l.one-index l.uses) l.actor

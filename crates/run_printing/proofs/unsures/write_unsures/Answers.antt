@@ -5,7 +5,7 @@ use Rattle.std.proofs.lemmas.Grind.{flat_map-append}
 use Rattle.core_events.specs.Meant.{event_meant}
 use Rattle.protocol.specs.Report.{replied}
 use Rattle.protocol.specs.Words.{is_among}
-use Rattle.run_printing.specs.Printed.{IsCut, unanswered, unsure_line}
+use Rattle.run_printing.specs.Printed.{IsBrokenOff, unanswered, unsure_line}
 use Rattle.run_printing.proofs.Fronts.{lines_cut, lines_whole}
 use Rattle.snap_outside.proofs.AtFault.{calls_join, surely}
 use Rattle.run_printing.proofs.Unanswered.{open_at, unanswered_next, unanswered_behind}
@@ -22,7 +22,7 @@ returns-then-not-write_unsure-clause-lines g c =
     sym (c.in-Ok.ensures.answered n c.loop-number-test.true) ∙ open_at c.in-Ok.answered.items n c.index.result.now c.index.ensures c.if-index.false in
     let rest = unanswered_behind es n c.args.count c.loop-number-test.true none in
     lines_cut (unsure_line c.args.log) _ _ _ _ _ _ (unanswered es n) (n ∷ []) rest.0 _ rest.1 c.loop-number.invariant.taken c.loop-number.invariant.later
-    (subst (λ bytes. IsCut (g.O.Sink.taken c.loop-number.out) (g.O.Sink.taken c.write_unsure.new.out) (g.O.Sink.faults c.loop-number.out) (g.O.Sink.faults c.write_unsure.new.out) bytes)
+    (subst (λ bytes. IsBrokenOff (g.O.Sink.taken c.loop-number.out) (g.O.Sink.taken c.write_unsure.new.out) (g.O.Sink.faults c.loop-number.out) (g.O.Sink.faults c.write_unsure.new.out) bytes)
     (sym (append-nil (unsure_line c.args.log n))) (c.write_unsure.ensures.cut c.if-not-write_unsure.true))
 
 pub returns-then-not-write_unsure-clause-once : goal.returns-then-not-write_unsure-clause-once

@@ -1,6 +1,6 @@
 use Rattle.std.proofs.Common.{◌≡◌, None, Some, ap, sym, subst, ◌∙◌}
 use Rattle.crew_grip.specs.Grips.{GripState}
-use Rattle.crew_parts.specs.Besides.{IsSound}
+use Rattle.crew_parts.specs.Besides.{IsSoundBeside}
 use Rattle.crew_parts.specs.Shares.{BesideState}
 use Rattle.turn_table.specs.Places.{at}
 use Rattle.crew_grip.proofs.ByNumber.{got_none, got_some}
@@ -25,7 +25,7 @@ returns-in-Some-Some-clause-all g c ready =
     sym (ap (λ (g : GripState). at g.besides c.args.part) c.self.view_is)
     ∙ (got_some c.self.inside.besides.items c.deref.result.now c.args.part c.in-Some-Some.field-0.now c.deref.ensures.value c.in-Some-Some.ensures.lookup.0 c.in-Some-Some.ensures.lookup.1
     ∙ c.in-Some-Some.field-0-is) in
-    c.is_sound.ensures.all (subst (IsSound c.args.logs c.args.part) (same ready.beside c.in-Some-Some.beside (sym ready.there ∙ there)) ready.sound) where
+    c.is_sound.ensures.all (subst (IsSoundBeside c.args.logs c.args.part) (same ready.beside c.in-Some-Some.beside (sym ready.there ∙ there)) ready.sound) where
       same : (x y : BesideState) → Some x ≡ Some y → x ≡ y
       same x y e = cc e
 

@@ -1,6 +1,6 @@
 use Rattle.std.proofs.Common.{◌≡◌, [], None, Some, ap, refl, subst, sym}
 use Rattle.crew_parts.specs.Acts.{MayDo, touched}
-use Rattle.crew_parts.specs.Crews.{Begins, Stands}
+use Rattle.crew_parts.specs.Crews.{AreFirstShares, Stands}
 use Rattle.snap_hand.specs.Tables.{fixed_of}
 use Rattle.turn_table.specs.Places.{IsIdle}
 use Rattle.turn_table.specs.Runs.{Fits}
@@ -18,7 +18,7 @@ returns-clause-free g c =
         own = c.split-pass.ensures.own.1;
         grip = subst (λ t. IsGripOf (fixed_of t) held c.in_ok-grip.grip) c.tables-2.ensures (c.in_ok-grip.ensures held idle);
         fits = subst (λ v. Fits (touched (tables_of c.args.turns.now)) (MayDo (tables_of c.args.turns.now)) start v.held v.entries) (sym c.split-pass.ensures.new) ([], start, refl, λ i p e. nothing p e, tt);
-        stands = subst (λ t. Begins (fixed_of t) start → IsIdle held → Stands (fixed_of t) start held) c.tables.ensures (λ b i. c.passes_stand.ensures.idle start held b i) c.requires.crew.begins idle;
+        stands = subst (λ t. AreFirstShares (fixed_of t) start → IsIdle held → Stands (fixed_of t) start held) c.tables.ensures (λ b i. c.passes_stand.ensures.idle start held b i) c.requires.crew.begins idle;
       };
       idle = idle;
       whole = ap (λ v. v.splits) c.split-pass.ensures.new;

@@ -1,5 +1,5 @@
 use Rattle.std.proofs.Common.{◌≡◌, OnOk, OnErr, IfErr, ap, subst}
-use Rattle.snap_core.specs.Cores.{IsTakenBy, IsNoBy}
+use Rattle.snap_core.specs.Cores.{HasTaken, IsNoBy}
 use Rattle.core_events.specs.Meant.{event_meant}
 use Rattle.snap_core.proofs.CoreRuns.{core_of, may_be_asked, taken_by, no_by, same_by, still_core}
 use Rattle.snap_core.proofs.cores.Core.step.Goals as goal
@@ -12,7 +12,7 @@ invariant_of-self c = still_core c.self.inside.tables (event_meant c.args.e) c.s
 
 pub returns-clause-ok : goal.returns-clause-ok
 returns-clause-ok c =
-    subst (λ z. OnOk c.apply.result (IsTakenBy (event_meant c.args.e) z (core_of c.self.inside.tables c.apply.new.hand))) c.self.view_is
+    subst (λ z. OnOk c.apply.result (HasTaken (event_meant c.args.e) z (core_of c.self.inside.tables c.apply.new.hand))) c.self.view_is
     (taken_by c.self.inside.tables c.runs_lead.ensures (event_meant c.args.e) c.self.inside.hand c.apply.new.hand c.apply.result c.apply.ensures)
 
 pub returns-clause-no : goal.returns-clause-no
