@@ -1,7 +1,7 @@
 -- Lists that change hands one value at a time, from the last one on, and what stands at a number of them.
 use Rattle.std.proofs.Common.{◌≡◌, ℕ, zero, suc, ◌+◌, ◌<◌, Some, List, [], ◌∷◌, ◌++◌, length, map, reverse, slice_get, refl, sym, ap, ◌∙◌, arith, append_assoc, append-nil}
 use Rattle.std.proofs.lemmas.List.{map-append, reverse-append}
-use Rattle.crew_ends.specs.Lists.{IsFront}
+use Rattle.snap_hand.specs.protocol_laws.OneWay.{IsFront}
 
 -- the last goes over to the end of a list that is read from its end
 pub one_over : {A B C : Type 0} (f : A → C) (g : B → C) (fewer more : List A) (old new : List B) (a : A) (b : B) → more ≡ fewer ++ a ∷ [] → new ≡ old ++ b ∷ [] → f a ≡ g b
@@ -19,18 +19,18 @@ last_first g old new b new_is = ap (map g) (ap reverse new_is ∙ reverse-append
 -- ---- fronts
 
 pub whole_front : {X : Type 0} (xs : List X) → IsFront xs xs
-whole_front xs = record { rest = []; is = sym (append-nil xs) }
+whole_front xs = record { more = []; is = sym (append-nil xs) }
 
 pub one_less : {X : Type 0} (xs ys all : List X) (x : X) → IsFront ys all → ys ≡ xs ++ x ∷ [] → IsFront xs all
 one_less xs ys all x front is = record {
-  rest = x ∷ front.rest;
-  is = front.is ∙ (ap (λ zs. zs ++ front.rest) is ∙ append_assoc xs (x ∷ []) front.rest);
+  more = x ∷ front.more;
+  is = front.is ∙ (ap (λ zs. zs ++ front.more) is ∙ append_assoc xs (x ∷ []) front.more);
 }
 
 pub front_of_front : {X : Type 0} (xs ys all : List X) → IsFront xs ys → IsFront ys all → IsFront xs all
 front_of_front xs ys all a b = record {
-  rest = a.rest ++ b.rest;
-  is = b.is ∙ (ap (λ zs. zs ++ b.rest) a.is ∙ append_assoc xs a.rest b.rest);
+  more = a.more ++ b.more;
+  is = b.is ∙ (ap (λ zs. zs ++ b.more) a.is ∙ append_assoc xs a.more b.more);
 }
 
 -- ---- by number
@@ -53,7 +53,7 @@ get_seam (x ∷ xs) ys y zero h = absurd (omega (arith, h))
 get_seam (x ∷ xs) ys y (suc n) h = get_seam xs ys y n (omega (arith, h))
 
 pub get_of_front : {X : Type 0} (xs all : List X) (i : ℕ) → IsFront xs all → i < length xs → slice_get all i ≡ slice_get xs i
-get_of_front xs all i front h = ap (λ zs. slice_get zs i) front.is ∙ get_front xs front.rest i h
+get_of_front xs all i front h = ap (λ zs. slice_get zs i) front.is ∙ get_front xs front.more i h
 
 pub mapped_from : {A B : Type 0} (f : A → B) (xs : List A) (i : ℕ) (y : B) → slice_get (map f xs) i ≡ Some y → (x : A) × ((slice_get xs i ≡ Some x) × (f x ≡ y))
 mapped_from f [] i y h = absurd (cc h)

@@ -5,7 +5,8 @@ use Rattle.std.proofs.lemmas.Option.{slice_get-map, slice_get_within}
 use Rattle.snap_base.proofs.Lists.{get_mapped, nothing_left}
 use Rattle.snap_base.proofs.Options.{some_value}
 use Rattle.crew_ends.specs.Ends.{AreBeside}
-use Rattle.crew_ends.specs.Lists.{EndsWithJournal, EndsWithOutput, HaveJournals, HaveOutput, IsFront, besides_of, gathered, journals_of, parts_of, taken}
+use Rattle.crew_ends.specs.Lists.{EndsWithJournal, EndsWithOutput, HaveJournals, HaveOutput, besides_of, gathered, journals_of, parts_of, taken}
+use Rattle.snap_hand.specs.protocol_laws.OneWay.{IsFront}
 use Rattle.crew_ends.proofs.OneOver.{get_behind, get_of_front, get_seam, last_of}
 use Rattle.crew_parts.specs.Shares.{BesideState, OutputState, ShareState}
 use Rattle.gate_log.specs.State.{LogState}

@@ -28,11 +28,6 @@ taken xs ps = parts_of xs ++ map shown (reverse ps)
 abbrev pub gathered : List BesideState → List LogState → List (Option LogState)
 gathered bs js = journals_of bs ++ map Some (reverse js)
 
--- The first are all but some of the last of the others.
-pub record IsFront {X : Type 0} (some all : List X) : Type 0 where
-  pub rest : List X
-  pub is : all ≡ some ++ rest
-
 -- There is a journal beside each of so many logs.
 abbrev pub HaveJournals : ℕ → List BesideState → Type 0
 HaveJournals n bs = (l : ℕ) (b : BesideState) → l < n → slice_get bs (log l) ≡ Some b → IsSome b.journal

@@ -1,7 +1,8 @@
 //! Shares are taken apart, from the last one on.
 ghost use Rattle.std.specs.Prelude.{◌≡◌, ◌+◌, ◌<◌, ◌≤◌, ◌∷◌, ◌++◌, [], map, length, vec_len, vec_capacity};
 ghost use Rattle.crew_ends.specs.Ends.{AreBeside};
-ghost use Rattle.crew_ends.specs.Lists.{EndsWithJournal, EndsWithOutput, HaveJournals, HaveOutput, IsFront, besides_of, gathered, parts_of, taken};
+ghost use Rattle.crew_ends.specs.Lists.{EndsWithJournal, EndsWithOutput, HaveJournals, HaveOutput, besides_of, gathered, parts_of, taken};
+ghost use Rattle.snap_hand.specs.protocol_laws.OneWay.{IsFront};
 ghost use Rattle.crew_parts.specs.Shares.{OutputState, output_seen};
 ghost use Rattle.gate_log.specs.State.{LogState};
 ghost use Rattle.snap_hand.specs.Shown.{shown};

@@ -1,5 +1,6 @@
 use Rattle.std.proofs.Common.{◌≡◌, ◌+◌, vec_len, vec_capacity}
-use Rattle.crew_ends.specs.Lists.{IsFront, besides_of, taken}
+use Rattle.crew_ends.specs.Lists.{besides_of, taken}
+use Rattle.snap_hand.specs.protocol_laws.OneWay.{IsFront}
 use Rattle.crew_ends.proofs.taking.take_bare.Given as goal
 
 abbrev pub invariant-loop-taken : goal.invariant-loop-taken
