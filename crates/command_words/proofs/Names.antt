@@ -45,5 +45,20 @@ gen_migrate e = let h : 103 ≡ 109 = letter 0 (codes "gen") (codes "migrate") e
 pub bench_migrate : codes "bench" ≡ codes "migrate" → ⊥
 bench_migrate e = let h : 98 ≡ 109 = letter 0 (codes "bench") (codes "migrate") e in omega (arith, h)
 
+pub run_audit : codes "run" ≡ codes "audit" → ⊥
+run_audit e = let h : 114 ≡ 97 = letter 0 (codes "run") (codes "audit") e in omega (arith, h)
+
+pub recover_audit : codes "recover" ≡ codes "audit" → ⊥
+recover_audit e = let h : 114 ≡ 97 = letter 0 (codes "recover") (codes "audit") e in omega (arith, h)
+
+pub gen_audit : codes "gen" ≡ codes "audit" → ⊥
+gen_audit e = let h : 103 ≡ 97 = letter 0 (codes "gen") (codes "audit") e in omega (arith, h)
+
+pub bench_audit : codes "bench" ≡ codes "audit" → ⊥
+bench_audit e = let h : 98 ≡ 97 = letter 0 (codes "bench") (codes "audit") e in omega (arith, h)
+
+pub migrate_audit : codes "migrate" ≡ codes "audit" → ⊥
+migrate_audit e = let h : 109 ≡ 97 = letter 0 (codes "migrate") (codes "audit") e in omega (arith, h)
+
 pub workers_seed : codes "--workers" ≡ codes "--seed" → ⊥
 workers_seed e = let h : 119 ≡ 115 = letter 2 (codes "--workers") (codes "--seed") e in omega (arith, h)

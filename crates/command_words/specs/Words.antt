@@ -50,6 +50,10 @@ IsRecover words = words ≡ codes "recover" ∷ []
 abbrev pub IsMigrate : List (List ℕ) → Type 0
 IsMigrate words = words ≡ codes "migrate" ∷ []
 
+-- says whether the input is the papers of a run
+abbrev pub IsAudit : List (List ℕ) → Type 0
+IsAudit words = words ≡ codes "audit" ∷ []
+
 -- prints the text of so many transactions that the seed draws
 abbrev pub IsGen : List (List ℕ) → ℕ → ℕ → Type 0
 IsGen words count s = (words ≡ codes "gen" ∷ decimal count ∷ decimal s ∷ []) × (count ≤ MOST_TRANSACTIONS) × (s < 2 ^ 64)
@@ -66,7 +70,7 @@ IsBench words count s n =
 abbrev pub IsForm : List (List ℕ) → Type 0
 IsForm words =
     ((n s : ℕ) × IsRunCommand words n s)
-    ⊎ (IsRecover words ⊎ (((count s : ℕ) × IsGen words count s) ⊎ (((count s n : ℕ) × IsBench words count s n) ⊎ IsMigrate words)))
+    ⊎ (IsRecover words ⊎ (((count s : ℕ) × IsGen words count s) ⊎ (((count s n : ℕ) × IsBench words count s n) ⊎ (IsMigrate words ⊎ IsAudit words))))
 
 -- ---- a wrong word
 

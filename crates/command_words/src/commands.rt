@@ -9,6 +9,8 @@ pub enum Command {
     Recover,
     /// Makes the logs of format 1 ones of format 2.
     Migrate,
+    /// Says whether the input is the papers of a run.
+    Audit,
     /// Prints the text of so many transactions that the seed draws.
     Gen { count: u32, seed: u64 },
     /// Runs that text, alone or with so many workers, at most 8, and prints its summary.

@@ -29,6 +29,9 @@ pub fn read_words(words: &[String]) -> Result<Command, u32>
     if word == "migrate" {
         return read_migrate(rest);
     }
+    if word == "audit" {
+        return read_audit(rest);
+    }
     if word == "gen" {
         return read_gen(rest);
     }
@@ -56,6 +59,16 @@ fn read_migrate(words: &[String]) -> Result<Command, u32>
         return Err(1);
     }
     Ok(Command::Migrate)
+}
+
+/// The words behind `audit`: there may be none.
+fn read_audit(words: &[String]) -> Result<Command, u32>
+    ensures { MatchResult result (IsCommand (codes "audit" ∷ map string_bytes words.now)) (IsUsageFault (codes "audit" ∷ map string_bytes words.now)) }
+{
+    if !words.is_empty() {
+        return Err(1);
+    }
+    Ok(Command::Audit)
 }
 
 /// The words behind `gen`: a number of transactions and a seed.

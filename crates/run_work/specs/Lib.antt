@@ -5,6 +5,7 @@ pub mod Runs
 pub mod Statuses
 pub mod Untraced
 pub mod Writings
+pub use Rattle.snap_base.specs as snap_base
 pub use Rattle.solo_host.specs.rand_core as rand_core
 pub use Rattle.solo_host.specs.rand_pcg as rand_pcg
 pub use Rattle.run_printing.specs.decimal_words as decimal_words

@@ -173,6 +173,7 @@ IsAnswerOf p r status.OutFault =
     Rose r.out.faults_before r.out.faults_after × HasBegun r none_failed (λ o es. PrintsNext (printed_of p r o es) ⊎ PrintsEnding (printed_of p r o es))
 IsAnswerOf p r status.TraceFault =
     Rose r.trace.faults_before r.trace.faults_after × HasBegun r none_failed (λ o es. HasAnswered r.work o es × PrintsAll (printed_of p r o es))
+IsAnswerOf p r (status.Audit fault) = ⊥
 
 -- of the command that prints the report
 abbrev pub IsWorkAnswer : RunUse → Status → Type 0
@@ -195,6 +196,7 @@ IsOfLogs status.ReadFault = ⊥
 IsOfLogs (status.LogFault log) = ⊤
 IsOfLogs status.OutFault = ⊥
 IsOfLogs status.TraceFault = ⊥
+IsOfLogs (status.Audit fault) = ⊥
 
 -- ---- whether the output failed
 

@@ -46,6 +46,7 @@ IsRunEnd Left d status.ReadFault = ⊥
 IsRunEnd Left d (status.LogFault log) = LeftFailed Left d.work d.schedule d.opening d.events log × PrintsFailed log d
 IsRunEnd Left d status.OutFault = Left none_failed × Rose d.out.faults_before d.out.faults_after × (PrintsNext d ⊎ PrintsEnding d)
 IsRunEnd Left d status.TraceFault = ⊥
+IsRunEnd Left d (status.Audit fault) = ⊥
 
 -- ---- on all devices
 

@@ -16,5 +16,6 @@ pub use endings::status_of;
 pub use printings::Told;
 pub use run_printing::push_actor;
 pub use runs::{HasRun, crew_summary, crew_work, run_work};
+pub use snap_base::{ActorId, Bid, Memory, Place, State, Tid};
 pub use snap_core::Event;
 pub use solo_host::write_all;

@@ -21,6 +21,8 @@ use Rattle.snap_recover.specs.declared.openings.Kept.{Kept}
 use Rattle.snap_recover.specs.declared.openings.Kept.TheVariants as kept
 use Rattle.snap_recover.specs.declared.causes.LogCause.{LogCause}
 use Rattle.snap_recover.specs.declared.causes.LogCause.TheVariants as cause
+use Rattle.snap_report.specs.declared.audit_faults.AuditFault.{AuditFault}
+use Rattle.snap_report.specs.declared.audit_faults.AuditFault.TheVariants as audit
 use Rattle.snap_report.specs.declared.statuses.Status.{Status}
 use Rattle.snap_report.specs.declared.statuses.Status.TheVariants as status
 
@@ -137,6 +139,7 @@ status_number status.ReadFault = 5
 status_number (status.LogFault log) = 6
 status_number status.OutFault = 7
 status_number status.TraceFault = 8
+status_number (status.Audit fault) = 10
 
 abbrev pub text_cause_text : TextCause → List ℕ
 text_cause_text text.BadByte = codes "BadByte"
@@ -181,6 +184,14 @@ log_cause_text (cause.Values k kept found) = codes "Values"
 log_cause_text (cause.Spent number) = codes "Spent"
 log_cause_text (cause.Differs what kept text) = codes "Differs"
 
+-- the line of what is wrong with the input of an audit
+abbrev pub audit_text : AuditFault → List ℕ
+audit_text audit.Parts = codes "snapper: audit: Parts" ++ line_end
+audit_text (audit.Text f) = codes "snapper: audit: Text " ++ (decimal f.line ++ (codes " " ++ (cause_text f.cause ++ line_end)))
+audit_text (audit.Trace line) = codes "snapper: audit: Trace " ++ (decimal line ++ line_end)
+audit_text (audit.Report line) = codes "snapper: audit: Report " ++ (decimal line ++ line_end)
+audit_text (audit.Clause clause at) = codes "snapper: audit: Clause " ++ (decimal clause ++ (codes " " ++ (decimal at ++ line_end)))
+
 -- the line of a status on standard error, and nothing for `Done`
 abbrev pub status_text : Status → List ℕ
 status_text status.Done = []
@@ -193,3 +204,4 @@ status_text status.ReadFault = codes "snapper: read fault" ++ line_end
 status_text (status.LogFault log) = codes "snapper: log fault " ++ (decimal log ++ line_end)
 status_text status.OutFault = codes "snapper: output fault" ++ line_end
 status_text status.TraceFault = codes "snapper: trace fault" ++ line_end
+status_text (status.Audit fault) = audit_text fault

@@ -2,11 +2,15 @@
 //! for the status that a call ends with. What a line is stands in `specs/Lines.antt`, and the summary in `specs/Summaries.antt`.
 #![tactic(auto)]
 
+mod audit_faults;
 mod lines;
 mod statuses;
 mod summaries;
 
-pub use lines::{actor_line, end_line, kept_line, migrated_line, recovered_line, reply_line};
+pub use audit_faults::AuditFault;
+pub use lines::{
+    actor_line, end_line, kept_line, migrated_line, recovered_line, reply_line, shown,
+};
 pub use snap_recover::{LogCause, What};
 pub use statuses::{Status, status_line};
 pub use summaries::{Summary, summary_line};

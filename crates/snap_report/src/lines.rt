@@ -27,8 +27,8 @@ pub fn actor_line(alloc: Global, actor: ActorId, state: &State) -> Result<String
     Ok(line)
 }
 
-/// How many fields are shown.
-fn shown(fields: &[i64]) -> usize
+/// How many fields of an actor are shown: up to the last that is not 0, and at least one.
+pub fn shown(fields: &[i64]) -> usize
     requires { 0 < length fields.now }
     ensures within { result ≤ length fields.now }
     ensures shown { take result fields.now ≡ shown_fields fields.now }

@@ -1,7 +1,8 @@
 //! How a call ended, and the line that the program writes of it.
 ghost use Rattle.std.specs.Prelude.{◌≡◌, IfOk, string_bytes};
-ghost use Rattle.snap_report.specs.Lines.{text_cause_text, check_cause_text, program_cause_text, cause_text, log_cause_text, status_text};
+ghost use Rattle.snap_report.specs.Lines.{text_cause_text, check_cause_text, program_cause_text, cause_text, log_cause_text, audit_text, status_text};
 
+use crate::audit_faults::AuditFault;
 use aml_resolver::CheckCause;
 use aml_tokens::TextCause;
 use snap_base::Memory;
@@ -43,6 +44,10 @@ pub enum Status {
     OutFault,
     /// 8: every transaction has a reply and all was written but the trace, whose sink failed.
     TraceFault,
+    /// 10: the input of an audit is not in order: what is wrong with it first.
+    Audit {
+        fault: AuditFault,
+    },
 }
 
 impl Status {
@@ -63,6 +68,7 @@ impl Status {
             Status::LogFault { .. } => 6,
             Status::OutFault => 7,
             Status::TraceFault => 8,
+            Status::Audit { .. } => 10,
         }
     }
 }
@@ -87,6 +93,25 @@ pub fn status_line(alloc: Global, status: &Status) -> Result<String, Memory>
         Status::LogFault { log } => Ok(format!(in alloc; "snapper: log fault {log}\n")?),
         Status::OutFault => Ok(String::from_str(alloc, "snapper: output fault\n")?),
         Status::TraceFault => Ok(String::from_str(alloc, "snapper: trace fault\n")?),
+        Status::Audit { fault } => audit_line(alloc, fault),
+    }
+}
+
+/// The line of an input that is not in order: what is wrong, and where.
+fn audit_line(alloc: Global, fault: AuditFault) -> Result<String, Memory>
+    ensures { IfOk result (λ s. string_bytes s ≡ audit_text fault) }
+{
+    match fault {
+        AuditFault::Parts => Ok(String::from_str(alloc, "snapper: audit: Parts\n")?),
+        AuditFault::Text(fault) => {
+            let (line, cause) = (fault.line, cause_name(fault.cause));
+            Ok(format!(in alloc; "snapper: audit: Text {line} {cause}\n")?)
+        }
+        AuditFault::Trace { line } => Ok(format!(in alloc; "snapper: audit: Trace {line}\n")?),
+        AuditFault::Report { line } => Ok(format!(in alloc; "snapper: audit: Report {line}\n")?),
+        AuditFault::Clause { clause, at } => {
+            Ok(format!(in alloc; "snapper: audit: Clause {clause} {at}\n")?)
+        }
     }
 }
 

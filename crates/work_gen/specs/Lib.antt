@@ -1,1 +1,2 @@
 pub mod Generated
+pub use Rattle.work_text.specs as work_text

@@ -9,3 +9,4 @@ mod texts;
 
 pub use laws::generated_texts_are_works;
 pub use texts::generate;
+pub use work_text::{a_work_is_short, fault_or_work, one_work, parse_work, transactions_may_run};

@@ -1,7 +1,7 @@
 use Rattle.std.proofs.Common.{◌≡◌, ◌+◌, ◌<◌, ◌∷◌, ◌++◌, [], pos, take, length, get_or, rules, arith, ap, sym, ◌∙◌}
 use Rattle.std.proofs.lemmas.List.{take_more, length-take}
 use Rattle.snap_report.specs.Lines.{shown_fields}
-use Rattle.snap_report.proofs.Shown.{shown_fields-push, shown_fields-zero, zero_is, not_zero_is}
+use Rattle.snap_report.proofs.ShownFields.{shown_fields-push, shown_fields-zero, zero_is, not_zero_is}
 use Rattle.snap_report.proofs.lines.shown.Goals as goal
 use Rattle.snap_report.proofs.lines.shown.Goals.{then-field-ne0, else-field-ne0}
 
