@@ -4,9 +4,9 @@ use Rattle.std.proofs.Common.{ap}
 use Rattle.std.proofs.lemmas.Bool.{true≢false}
 use Rattle.snap_base.specs.declared.transactions.State.{State}
 use Rattle.snap_base.specs.declared.transactions.Tx.{Tx}
-use Rattle.aml_tree.specs.Tree.{CheckedMethod}
-use Rattle.aml_check.specs.Meaning as meaning
-use Rattle.aml_check.specs.Meaning.{Progress, ended_alone}
+use Rattle.aml_slice.specs.aml_tree.Tree.{CheckedMethod}
+use Rattle.aml_slice.specs.aml_check.Meaning as meaning
+use Rattle.aml_slice.specs.aml_check.Meaning.{Progress, ended_alone}
 use Rattle.protocol.specs.Words.{is_value}
 use Rattle.snap_base.specs.Outcomes.{Serial}
 use Rattle.audit_words.specs.Clauses.{LeavesNothing, serial}

@@ -44,7 +44,7 @@ abbrev is_form : Event → Bool
 is_form (Form k) = true
 is_form _ = false
 
-batches_stay : (r : Tx → Bool) (w : Text) (e : Event) (t : Seen) → is_form e ≡ false → (added r w e t).batches ≡ t.batches
+pub batches_stay : (r : Tx → Bool) (w : Text) (e : Event) (t : Seen) → is_form e ≡ false → (added r w e t).batches ≡ t.batches
 unfolding added
 batches_stay r w (Form k) t h = absurd (true≢false h)
 batches_stay r w (Arrive k a) t h = either (λ x. x.batches) (comes k a t) _ t refl
@@ -72,7 +72,7 @@ abbrev is_abort : Event → Bool
 is_abort (Abort k) = true
 is_abort _ = false
 
-cuts_stay : (r : Tx → Bool) (w : Text) (e : Event) (t : Seen) → is_abort e ≡ false → (added r w e t).cuts ≡ t.cuts
+pub cuts_stay : (r : Tx → Bool) (w : Text) (e : Event) (t : Seen) → is_abort e ≡ false → (added r w e t).cuts ≡ t.cuts
 unfolding added
 cuts_stay r w (Abort k) t h = absurd (true≢false h)
 cuts_stay r w (Arrive k a) t h = either (λ x. x.cuts) (comes k a t) _ t refl

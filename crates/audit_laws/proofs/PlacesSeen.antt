@@ -32,7 +32,7 @@ pub record Laws {C : Type 0} (w : Fixed C) (finish : C → List State → Alone)
   pub room : (es : List Event) → IsRun w es → AllFindRoom w (reached w es)
   pub told : (es : List Event) → IsRun w es → CommittedTold (reached w es) (history w es)
 
-facts_of : {C : Type 0} (w : Fixed C) (Of : Tx → C → Type 0) (finish : C → List State → Alone) (es : List Event) → Given w Of finish → Laws w finish → IsRun w es → SimFacts w Of finish (reached w es) (history w es)
+pub facts_of : {C : Type 0} (w : Fixed C) (Of : Tx → C → Type 0) (finish : C → List State → Alone) (es : List Event) → Given w Of finish → Laws w finish → IsRun w es → SimFacts w Of finish (reached w es) (history w es)
 facts_of w Of finish es v l run =
     let z = whole w Of finish es v run in
     record {

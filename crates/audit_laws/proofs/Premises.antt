@@ -54,7 +54,7 @@ all_of P (d ∷ ds) f = (f d (inl refl), all_of P ds (λ x i. f x (inr i)))
 
 -- ---- each is a transaction of the text
 
-once_there : (n : ℕ) (xs : List ℕ) → is_among n xs ≡ true → 1 ≤ times n xs
+pub once_there : (n : ℕ) (xs : List ℕ) → is_among n xs ≡ true → 1 ≤ times n xs
 once_there n [] h = absurd (true≢false (sym h))
 once_there n (x ∷ xs) h = by (x == n) h (once_there n xs)
   where
@@ -62,10 +62,10 @@ once_there n (x ∷ xs) h = by (x == n) h (once_there n xs)
     by true k more = omega arith
     by false k more = more k
 
-among_left : (n : ℕ) (xs ys : List ℕ) → is_among n xs ≡ true → is_among n (xs ++ ys) ≡ true
+pub among_left : (n : ℕ) (xs ys : List ℕ) → is_among n xs ≡ true → is_among n (xs ++ ys) ≡ true
 among_left n xs ys h = among_join n xs ys ∙ or_left (is_among n xs) (is_among n ys) h
 
-among_right : (n : ℕ) (xs ys : List ℕ) → is_among n ys ≡ true → is_among n (xs ++ ys) ≡ true
+pub among_right : (n : ℕ) (xs ys : List ℕ) → is_among n ys ≡ true → is_among n (xs ++ ys) ≡ true
 among_right n xs ys h = among_join n xs ys ∙ or_right (is_among n xs) (is_among n ys) h
 
 itself : (n : ℕ) (b : Bool) → ((n == n) || b) ≡ true
@@ -108,9 +108,13 @@ in_text w s n once z h = below (nat_lt n s.ring.next_tx) refl
         none true false e = refl
         none false b e = refl
 
+-- a transaction of a batch of the desk
+pub batch_in_text : {C : Type 0} (w : Fixed C) (s : Machine C) (n k : ℕ) (b : Batch) → TransactionsInOnePlace w s → SizesHold w s → batch_of k s.desk.batches ≡ Some b → is_among n (map (λ p. p.tx) b.pacts) ≡ true → n < length w.text.txs
+batch_in_text w s n k b once z found named =
+    in_text w s n once z (among_right n (flat s.ring.pacts ++ flat s.ring.acts) _ (among_left n (flat (map (λ (c : Batch). map (λ (p : Pact). p.tx) c.pacts) s.desk.batches)) (map (λ x. x.tx) s.book.acts) (batch_there k n b s.desk.batches found named)))
+
 done_in_text : {C : Type 0} (w : Fixed C) (s : Machine C) (d : Done) → TransactionsInOnePlace w s → SizesHold w s → IsCommittedPact s d ⊎ IsCommittedAct s d → d.tx < length w.text.txs
-done_in_text w s d once z (inl p) =
-    in_text w s d.tx once z (among_right d.tx (flat s.ring.pacts ++ flat s.ring.acts) _ (among_left d.tx _ (map (λ x. x.tx) s.book.acts) (batch_there d.place.batch.0 d.tx p.batch s.desk.batches p.found (pact_there d.place.order d.tx p.batch.pacts p.names))))
+done_in_text w s d once z (inl p) = batch_in_text w s d.tx d.place.batch.0 p.batch once z p.found (pact_there d.place.order d.tx p.batch.pacts p.names)
 done_in_text w s d once z (inr a) =
     subst (λ (n : ℕ). n < length w.text.txs) (sym a.tx)
     (in_text w s (a.act).tx once z (among_right (a.act).tx (flat s.ring.pacts ++ flat s.ring.acts) _ (among_right (a.act).tx (flat (map (λ b. map (λ p. p.tx) b.pacts) s.desk.batches)) _ (act_there a.tid a.act s.book.acts a.found))))

@@ -6,7 +6,7 @@ use Rattle.std.specs.List.{AllByRecursion, flat_map}
 use Rattle.std.proofs.Common.{arith, sym, ap, subst, ◌∙◌}
 use Rattle.snap_base.specs.Lines.{lines, onto_line}
 use Rattle.snap_base.specs.Text.{place_text, verdict_text}
-use Rattle.snap_report.specs.Lines.{value_text}
+use Rattle.run_effects.specs.snap_report.Lines.{value_text}
 use Rattle.snap_base.specs.declared.verdicts.Place.{Place}
 use Rattle.snap_base.specs.declared.verdicts.Verdict.{Verdict}
 use Rattle.snap_base.specs.declared.verdicts.Verdict.TheVariants as verdicts

@@ -11,7 +11,7 @@ use Rattle.protocol.specs.Events.{Event}
 use Rattle.protocol.specs.Fixed.{Fixed}
 use Rattle.protocol.specs.Report.{Answer, report}
 use Rattle.protocol.specs.Runs.{reached}
-use Rattle.snap_report.specs.Lines.{actor_text, actors_text, end_text, line_end, reply_text, shown_fields}
+use Rattle.run_effects.specs.snap_report.Lines.{actor_text, actors_text, end_text, line_end, reply_text, shown_fields}
 use Rattle.run_effects.specs.Lines.{answer_lines, report_text, verdict_line}
 use Rattle.audit_words.specs.Papers.{Line, Reply, Actor, End, ended, line_text}
 use Rattle.audit_words.specs.Reports.{actor_lines, reply_line_of, reply_lines, report_lines}

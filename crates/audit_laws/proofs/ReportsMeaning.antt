@@ -6,6 +6,7 @@ use Rattle.std.proofs.lemmas.Bool.{true≢false, eqb-true}
 use Rattle.std.proofs.lemmas.List.{append-nil}
 use Rattle.snap_base.proofs.Lists.{all_join}
 use Rattle.snap_base.specs.declared.transactions.State.{State}
+use Rattle.snap_base.specs.declared.transactions.Tx.{Tx}
 use Rattle.snap_base.specs.declared.transactions.TxResult.{TxResult}
 use Rattle.snap_base.specs.declared.transactions.TxResult.TheVariants.{Value, Fail}
 use Rattle.snap_base.specs.declared.verdicts.Place.{Place}
@@ -16,11 +17,11 @@ use Rattle.protocol.specs.Facts.{Alone, alone, undone}
 use Rattle.protocol.specs.Facts as facts
 use Rattle.protocol.specs.Fixed.{Fixed, Text, tx_at, no_state}
 use Rattle.snap_base.specs.Outcomes.{Serial}
-use Rattle.snap_report.specs.Lines.{shown_fields}
+use Rattle.run_effects.specs.snap_report.Lines.{shown_fields}
 use Rattle.protocol.specs.Parts.{Cell, Machine}
 use Rattle.protocol.specs.Words.{is_value, is_among}
 use Rattle.protocol.specs.History.{Done, history}
-use Rattle.protocol.specs.Chains.{is_place_below, by_place, IsBelowAll, PlacesRise, serial_run, txs_of}
+use Rattle.protocol.specs.Chains.{is_place_below, by_place, IsBelowAll, PlacesRise, serial_run}
 use Rattle.protocol.specs.Report.{replied, report}
 use Rattle.protocol.specs.Runs.{reached, IsRun}
 use Rattle.protocol.specs.Verdicts.{verdict, ended_at}
@@ -46,15 +47,14 @@ undone_leaves old (Fail c) new h = refl
 pub leaves_nothing : {C : Type 0} (w : Fixed C) (finish : C → List State → Alone) → LeavesNothing (meaning_of w finish)
 leaves_nothing w finish world tx h = undone_leaves world _ _ h
 
-same_serial : {C : Type 0} (w : Fixed C) (finish : C → List State → Alone) (world : List State) (ds : List Done)
-    → serial (meaning_of w finish) world (txs w.text ds) ≡ facts.serial w.code finish world (txs_of w ds)
-same_serial w finish world [] = refl
-same_serial w finish world (d ∷ ds) = rw (same_serial w finish (alone w.code finish world (tx_at w.text d.tx)).world ds) refl
+pub serial_same : {C : Type 0} (w : Fixed C) (finish : C → List State → Alone) (world : List State) (ts : List Tx) → serial (meaning_of w finish) world ts ≡ facts.serial w.code finish world ts
+serial_same w finish world [] = refl
+serial_same w finish world (t ∷ ts) = rw (serial_same w finish (alone w.code finish world t).world ts) refl
 
 -- ---- from a serial run
 
 -- the equation for the first of them, and for the others
-heads : {X : Type 0} (x y : X) (xs ys : List X) → x ∷ xs ≡ y ∷ ys → (x ≡ y) × (xs ≡ ys)
+pub heads : {X : Type 0} (x y : X) (xs ys : List X) → x ∷ xs ≡ y ∷ ys → (x ≡ y) × (xs ≡ ys)
 heads x y xs ys e = (cc, cc)
 
 from_serial : (m : Meaning) → LeavesNothing m → (w : Text) (world : List State) (ds : List Done) → map Some (serial m world (txs w ds)).results ≡ map (λ d. d.result) ds → AsSaid m w world ds
@@ -85,7 +85,7 @@ told_as o = unwrap_or o (Fail 0)
 abbrev pub mine : Done → Done
 mine d = done_at d.tx d.place (told_as d.result)
 
-mine_result : (d : Done) → is_some d.result ≡ true → (mine d).result ≡ d.result
+pub mine_result : (d : Done) → is_some d.result ≡ true → (mine d).result ≡ d.result
 mine_result d h = by d.result h
   where
     by : (o : Option TxResult) → is_some o ≡ true → Some (told_as o) ≡ o
@@ -115,7 +115,7 @@ results_mine : (ds : List Done) → AllByRecursion (λ d. is_some d.result ≡ t
 results_mine [] h = refl
 results_mine (d ∷ ds) h = ap (λ (r : Option TxResult). r ∷ map (λ (x : Done). x.result) (map mine ds)) (mine_result d h.0) ∙ ap (λ (rs : List (Option TxResult)). d.result ∷ rs) (results_mine ds h.1)
 
-txs_mine : (w : Text) (ds : List Done) → txs w (map mine ds) ≡ txs w ds
+pub txs_mine : (w : Text) (ds : List Done) → txs w (map mine ds) ≡ txs w ds
 txs_mine w [] = refl
 txs_mine w (d ∷ ds) = ap (λ ts. tx_at w d.tx ∷ ts) (txs_mine w ds)
 
@@ -296,6 +296,17 @@ the_lines s ns states x y z = map (said s) ns ++ (actor_lines 0 states ++ End x 
 located_lines : {C : Type 0} (s : Machine C) (ns : List ℕ) (states : List State) (x y z : ℕ) → located (the_lines s ns states x y z) ≡ located (map (said s) ns)
 located_lines s ns states x y z = located_join (map (said s) ns) (actor_lines 0 states ++ End x y z ∷ []) ∙ (ap (λ ds. located (map (said s) ns) ++ ds) (none_located states 0 x y z) ∙ append-nil (located (map (said s) ns)))
 
+-- Who is located, in the order of places, is who committed.
+located_are_done : {C : Type 0} (w : Fixed C) (finish : C → List State → Alone) (es : List Event) → CommittedStand w finish es → TxsDiffer (located (map (said (reached w es)) (replied es)))
+    → by_place (located (map (said (reached w es)) (replied es))) ≡ map mine (by_place (history w es).committed)
+located_are_done w finish es k differ =
+    let s = reached w es in
+    let ds = located (map (said s) (replied es)) in
+    let done = (history w es).committed in
+    same_sorted (by_place ds) (map mine (by_place done)) (rises_sorted ds (places_differ done ds k.rise differ (all_from w finish es k (replied es)))) (rise_mine (by_place done) k.rise)
+    (λ d i. let q = all_from w finish es k (replied es) d (from_sorted d ds i) in subst (λ (u : Done). IsIn u (map mine (by_place done))) (sym q.1.1) (in_map q.0 (by_place done) (in_sorted q.0 done q.1.0)))
+    (λ d i. let q = from_map d (by_place done) i in subst (λ (u : Done). IsIn u (by_place ds)) (sym q.1.1) (in_sorted (mine q.0) ds (done_located w finish es k q.0 (from_sorted q.0 done q.1.0))))
+
 meaning_told : {C : Type 0} (w : Fixed C) (finish : C → List State → Alone) (es : List Event) → CommittedStand w finish es → (x y z : ℕ)
     → TxsDiffer (located (map (said (reached w es)) (replied es)))
     → EachLine (TellsMeaning (meaning_of w finish) w.text (the_lines (reached w es) (replied es) (map (λ c. c.state) (reached w es).cells) x y z)) [] (the_lines (reached w es) (replied es) (map (λ c. c.state) (reached w es).cells) x y z)
@@ -308,11 +319,8 @@ meaning_told {C} w finish es k x y z differ =
     let done = (history w es).committed in
     let opens = w.text.opening.states in
     let there : located ls ≡ ds = located_lines s (replied es) states x y z in
-    let same : by_place ds ≡ map mine (by_place done) =
-    same_sorted (by_place ds) (map mine (by_place done)) (rises_sorted ds (places_differ done ds k.rise differ (all_from w finish es k (replied es)))) (rise_mine (by_place done) k.rise)
-    (λ d i. let q = all_from w finish es k (replied es) d (from_sorted d ds i) in subst (λ (u : Done). IsIn u (map mine (by_place done))) (sym q.1.1) (in_map q.0 (by_place done) (in_sorted q.0 done q.1.0)))
-    (λ d i. let q = from_map d (by_place done) i in subst (λ (u : Done). IsIn u (by_place ds)) (sym q.1.1) (in_sorted (mine q.0) ds (done_located w finish es k q.0 (from_sorted q.0 done q.1.0)))) in
-    let run : serial m opens (txs w.text (map mine (by_place done))) ≡ serial_run w finish done = ap (serial m opens) (txs_mine w.text (by_place done)) ∙ same_serial w finish opens (by_place done) in
+    let same : by_place ds ≡ map mine (by_place done) = located_are_done w finish es k differ in
+    let run : serial m opens (txs w.text (map mine (by_place done))) ≡ serial_run w finish done = ap (serial m opens) (txs_mine w.text (by_place done)) ∙ serial_same w finish opens (txs w.text (by_place done)) in
     let said2 : AsSaid m w.text opens (map mine (by_place done)) =
     from_serial m (leaves_nothing w finish) w.text opens (map mine (by_place done))
     (ap (λ (r : Serial). map Some r.results) run ∙ (k.serial ∙ sym (results_mine (by_place done) (all_sorted (λ (d : Done). is_some d.result ≡ true) done k.ended)))) in
@@ -328,17 +336,30 @@ meaning_told {C} w finish es k x y z differ =
     (all_join (LineTellsState states) (map (said s) (replied es)) (actor_lines 0 states ++ End x y z ∷ []) (said_tell states s (replied es))
     (all_join (LineTellsState states) (actor_lines 0 states) (End x y z ∷ []) (actors_tell [] states 0 refl) (tt, tt)))))
 
-pub reports_tell_meaning : {C : Type 0} (w : Fixed C) (finish : C → List State → Alone) (es : List Event) → IsRun w es → AnswersStand w es → AllReplied w es → CommittedStand w finish es
-    → EachLine (TellsMeaning (meaning_of w finish) w.text (report_lines w es)) [] (report_lines w es)
-reports_tell_meaning w finish es run a r k =
+-- no transaction is located twice in the report
+located_differ : {C : Type 0} (w : Fixed C) (es : List Event) → IsRun w es → AnswersStand w es → AllReplied w es → TxsDiffer (located (map (said (reached w es)) (replied es)))
+located_differ w es run a r =
     let s = reached w es in
-    let known = replies_known w es run a in
-    let same = lines_said s (replied es) known in
     let shape = reports_have_shape w es run a r in
     let more = report es s in
     let tail = actor_lines 0 more.states ++ End more.committed more.aborted more.batches ∷ [] in
     let once = (located_once (length w.text.txs) (length w.text.opening.states) more.batches [] (report_lines w es) shape.each).differ in
-    let differ : TxsDiffer (located (map (said s) (replied es))) =
-    subst TxsDiffer (ap (λ (ls : List Line). located (ls ++ tail)) same ∙ located_lines s (replied es) more.states more.committed more.aborted more.batches) once in
-    subst (λ (ls : List Line). EachLine (TellsMeaning (meaning_of w finish) w.text (ls ++ tail)) [] (ls ++ tail)) (sym same)
-    (meaning_told w finish es k more.committed more.aborted more.batches differ)
+    subst TxsDiffer (ap (λ (ls : List Line). located (ls ++ tail)) (lines_said s (replied es) (replies_known w es run a)) ∙ located_lines s (replied es) more.states more.committed more.aborted more.batches) once
+
+-- Who is told a place by the report, in the order of places, is who committed.
+pub lines_located : {C : Type 0} (w : Fixed C) (finish : C → List State → Alone) (es : List Event) → IsRun w es → AnswersStand w es → AllReplied w es → CommittedStand w finish es
+    → by_place (located (report_lines w es)) ≡ map mine (by_place (history w es).committed)
+lines_located w finish es run a r k =
+    let s = reached w es in
+    let more = report es s in
+    let tail = actor_lines 0 more.states ++ End more.committed more.aborted more.batches ∷ [] in
+    ap by_place (ap (λ (ls : List Line). located (ls ++ tail)) (lines_said s (replied es) (replies_known w es run a)) ∙ located_lines s (replied es) more.states more.committed more.aborted more.batches) ∙ located_are_done w finish es k (located_differ w es run a r)
+
+pub reports_tell_meaning : {C : Type 0} (w : Fixed C) (finish : C → List State → Alone) (es : List Event) → IsRun w es → AnswersStand w es → AllReplied w es → CommittedStand w finish es
+    → EachLine (TellsMeaning (meaning_of w finish) w.text (report_lines w es)) [] (report_lines w es)
+reports_tell_meaning w finish es run a r k =
+    let s = reached w es in
+    let more = report es s in
+    let tail = actor_lines 0 more.states ++ End more.committed more.aborted more.batches ∷ [] in
+    subst (λ (ls : List Line). EachLine (TellsMeaning (meaning_of w finish) w.text (ls ++ tail)) [] (ls ++ tail)) (sym (lines_said s (replied es) (replies_known w es run a)))
+    (meaning_told w finish es k more.committed more.aborted more.batches (located_differ w es run a r))

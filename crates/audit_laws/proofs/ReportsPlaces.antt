@@ -17,7 +17,7 @@ use Rattle.protocol.specs.Runs.{reached, IsRun}
 use Rattle.protocol.specs.Verdicts.{verdict}
 use Rattle.audit_words.specs.Audited.{EachLine}
 use Rattle.audit_words.specs.Beside.{BatchesRise, CommitsStand, EachTold, TellsPlaced}
-use Rattle.snap_report.specs.Lines.{shown_fields}
+use Rattle.run_effects.specs.snap_report.Lines.{shown_fields}
 use Rattle.audit_words.specs.Clauses.{IsPlacedAt, TellsPlace}
 use Rattle.audit_words.specs.Papers.{Line, Reply, Actor, End, Kept, Recovered}
 use Rattle.audit_words.specs.Reports.{actor_lines, report_lines, AnswersStand, CommittedStand, IsDoneAt}

@@ -14,7 +14,7 @@ use Rattle.protocol.specs.Runs.{reached, IsRun}
 use Rattle.protocol.specs.Verdicts.{verdict}
 use Rattle.protocol.specs.Words.{holds, is_among, count}
 use Rattle.audit_words.specs.Papers.{Line, Reply, Actor, End}
-use Rattle.snap_report.specs.Lines.{shown_fields}
+use Rattle.run_effects.specs.snap_report.Lines.{shown_fields}
 use Rattle.audit_words.specs.Clauses.{is_unsure, is_answered, tells_commit, tells_other, MayFollow}
 use Rattle.audit_words.specs.Audited.{EachLine, HasShape}
 use Rattle.audit_words.specs.Reports.{reply_line_of, reply_lines, actor_lines, report_lines, AnswersStand, AllReplied}

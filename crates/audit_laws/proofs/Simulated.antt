@@ -13,7 +13,7 @@ use Rattle.protocol.specs.OnBook as book
 use Rattle.protocol.specs.OnCell as cell
 use Rattle.protocol.specs.Parts.{Act, Cell, Machine, OfAct, Pair, Who}
 use Rattle.protocol.specs.Rivals.{Lock}
-use Rattle.protocol.specs.Words.{act_of, control_of, floor_at, is_ordered, lock_of, who_of}
+use Rattle.protocol.specs.Words.{act_of, control_of, floor_at, greatest, is_ordered, lock_of, who_of}
 use Rattle.protocol_laws.specs.Highs.{doomed_at}
 use Rattle.protocol_laws.specs.Told.{FromBatches}
 use Rattle.protocol_laws.proofs.machine.AllGood.{AllGood}
@@ -24,7 +24,7 @@ use Rattle.protocol_theorems.specs.Sizes.{AllFindRoom}
 use Rattle.protocol_theorems.proofs.order.ArrivesOnce.{AllPlaced}
 use Rattle.protocol_theorems.proofs.sets.AfterStand.{AfterStand}
 use Rattle.protocol_theorems.proofs.sets.BeforeStand.{BeforeStand}
-use Rattle.audit_words.specs.Seen.{Begun, Doom, Member, Older, Seen, act_in, has_its_place, was_given_up, next_c}
+use Rattle.audit_words.specs.Seen.{Begun, Doom, Member, Older, Seen, act_in, has_its_place, least, was_given_up, next_c}
 use Rattle.audit_laws.proofs.Acts.{status_at}
 
 -- ---- the same transaction, at the same place
@@ -92,6 +92,10 @@ stands_behind u a z = record { behind = u; ahead = z.tid; actor = a }
 -- an ACT dies there, of an older one
 abbrev pub died_as : ℕ → ℕ → ℕ → Doom
 died_as u a older = record { tid = u; why = Older a older }
+
+-- the numbers of an ACT are the ends of its two sets
+abbrev pub EndsAre : Seen → ℕ → Act → Type 0
+EndsAre t u x = (x.m ≡ greatest (t.before u)) × (x.n ≡ least (t.behind u))
 
 -- who stands in a cell
 abbrev pub EntriesAre : {C : Type 0} → ℕ → Cell C → List Who → Type 0

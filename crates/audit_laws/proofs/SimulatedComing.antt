@@ -19,7 +19,7 @@ use Rattle.protocol.specs.OnBook as book
 use Rattle.protocol.specs.OnCell as cell
 use Rattle.protocol.specs.Parts.{Act, ActEntry, Machine, OfAct, OfBatch, Pair, Status, SubBatch, Who}
 use Rattle.protocol.specs.Rivals.{Lock, rivals}
-use Rattle.protocol.specs.Spread.{crossed_out, raised}
+use Rattle.protocol.specs.Spread.{crossed_out, is_crossed, raised}
 use Rattle.protocol.specs.Verdicts.{died}
 use Rattle.protocol.specs.Words.{act_of, floor_at, greatest, has_act, holds, is_doomed, is_live_status, is_ordered, lock_of, sub_of, who_of}
 use Rattle.protocol_laws.specs.FromDesk.{is_declared, MessageOf}
@@ -36,13 +36,13 @@ use Rattle.protocol_theorems.proofs.order.ArrivesOnce.{arrives_once}
 use Rattle.protocol_theorems.proofs.sets.AtPlacing.{arrive_ends, ask_ends}
 use Rattle.audit_words.specs.Happenings as told
 use Rattle.audit_words.specs.Happenings.{ahead_of, comes, cross_out, gain, may_ask, met, act_placed_last, batch_placed_last, with_pairs}
-use Rattle.audit_words.specs.Seen.{Seen, acts_among, batch_in, goes_to, was_admitted, was_taken_along, was_given_up, is_one_of_these, least, lock_in}
+use Rattle.audit_words.specs.Seen.{Seen, acts_among, batch_in, goes_to, was_admitted, was_taken_along, was_given_up, is_one_of_these, least, lock_in, sets_cross}
 use Rattle.audit_laws.specs.Names.{TellsNames}
 use Rattle.audit_laws.proofs.Acts.{changed_status, crossed_ordered, died_ordered, doomed_died, if_tid, mapped_status, mapped_tids, raised_status, raised_tids, status_at}
 use Rattle.audit_laws.proofs.GivenUp.{crossed_told, given_join, same_least, seen_crossing}
 use Rattle.audit_laws.proofs.NamesSeen.{Frames}
 use Rattle.audit_laws.proofs.Standing.{acts_same, cut_same, goes_same, lock_same, met_same, there_placed, there_same}
-use Rattle.audit_laws.proofs.Simulated.{Tells, AskedTells, stands_behind, died_as, EntriesAre, act_pair, SimFacts}
+use Rattle.audit_laws.proofs.Simulated.{Tells, AskedTells, EndsAre, stands_behind, died_as, EntriesAre, act_pair, SimFacts}
 use Rattle.audit_laws.proofs.SimulatedLists.{at_both, at_right, at_long, at_long_both, beyond_more, still_gaining, spread_same}
 
 module _ {C : Type 0} (w : Fixed C) (fr : Frames C) where
@@ -109,6 +109,36 @@ module _ {C : Type 0} (w : Fixed C) (fr : Frames C) where
   pub lowered_status : (p : Status → Bool) (k : ℕ) (ts : List ℕ) (u : ℕ) (xs : List Act) → status_at p (map (book.lowered k ts) xs) u ≡ status_at p xs u
   lowered_status p k ts u xs = mapped_status p (book.lowered k ts) u xs (λ x. refl) (λ x. refl)
 
+  -- the batches behind an ACT, behind an Arrive
+  pub behind_arrived : (k a : ℕ) (s : Machine C) (h : History) (t : Seen) → Tells w s h t → (batch_placed_last k a t).behind ≡ history.behind_too k (book.tids_on (cell_at s a).entries) h.behind
+  behind_arrived k a s h t g =
+      let ts = book.tids_on (cell_at s a).entries in
+      ap (λ (ns : List ℕ). history.behind_too k ns t.behind) (ap acts_among (g.entries a) ∙ acts_same (cell_at s a).entries) ∙ ap (history.behind_too k ts) g.behind
+
+  -- the numbers of a live one are the ends of its sets, behind an Arrive
+  pub arrived_ends : (Of : Tx → C → Type 0) (finish : C → List State → Alone) (k a u : ℕ) (s : Machine C) (h : History) (t : Seen) → IsAllowed w (Arrive k a) s → SimFacts w Of finish s h → Tells w s h t
+      → (y : Act) → act_of u (map (book.lowered k (book.tids_on (cell_at s a).entries)) s.book.acts) ≡ Some y → is_live_status y.status ≡ true → EndsAre (batch_placed_last k a t) u y
+  unfolding after grown
+  arrived_ends Of finish k a u s h t ok f g y e l =
+      let ts = book.tids_on (cell_at s a).entries in
+      let xs = map (book.lowered k ts) s.book.acts in
+      let behind = behind_arrived k a s h t g in
+      let z = was_live u s.book.acts (live_of is_live_status u xs s.book.acts y (lowered_status is_live_status k ts u s.book.acts) e ∙ l) in
+      let q = arrive_ends w Of finish k a u s h z.0 (crossed_out a y) ok f.good f.before f.after z.1.0 z.1.1 (crossed_found a u xs y e) in
+      let i = found_tid u xs y e in (
+        q.m ∙ (ap (λ (m : ℕ). greatest (h.before m)) i ∙ ap (λ (b : ℕ → List ℕ). greatest (b u)) (sym g.before)),
+        q.n ∙ (ap (λ (m : ℕ). least_in (history.behind_too k ts h.behind m)) i ∙ (sym (same_least (history.behind_too k ts h.behind u)) ∙ ap (λ (b : ℕ → List ℕ). least (b u)) (sym behind))),
+      )
+
+  -- its sets cross where its numbers do
+  pub arrived_crosses : (Of : Tx → C → Type 0) (finish : C → List State → Alone) (k a u : ℕ) (s : Machine C) (h : History) (t : Seen) → IsAllowed w (Arrive k a) s → SimFacts w Of finish s h → Tells w s h t
+      → (y : Act) → act_of u (map (book.lowered k (book.tids_on (cell_at s a).entries)) s.book.acts) ≡ Some y → sets_cross (batch_placed_last k a t) u ≡ is_crossed y
+  arrived_crosses Of finish k a u s h t ok f g y e =
+      let ts = book.tids_on (cell_at s a).entries in
+      let xs = map (book.lowered k ts) s.book.acts in
+      seen_crossing (batch_placed_last k a t) u y (g.dooms u ∙ live_of is_doomed u xs s.book.acts y (lowered_status is_doomed k ts u s.book.acts) e) (g.ordered u ∙ live_of is_ordered u xs s.book.acts y (lowered_status is_ordered k ts u s.book.acts) e)
+      (arrived_ends Of finish k a u s h t ok f g y e)
+
   -- behind an Arrive
   pub arriving_kept : (Of : Tx → C → Type 0) (finish : C → List State → Alone) (k a : ℕ) (s : Machine C) (h : History) (t : Seen) → IsAllowed w (Arrive k a) s → SimFacts w Of finish s h → TellsNames w s t → Tells w s h t
       → Tells w (after w (Arrive k a) s) (grown w (Arrive k a) s h) (cross_out a (batch_placed_last k a t))
@@ -118,17 +148,10 @@ module _ {C : Type 0} (w : Fixed C) (fr : Frames C) where
       let ts = book.tids_on (cell_at s a).entries in
       let xs = map (book.lowered k ts) s.book.acts in
       let x : Seen = batch_placed_last k a t in
-      let behind : x.behind ≡ history.behind_too k ts h.behind = ap (λ (ns : List ℕ). history.behind_too k ns t.behind) (ap acts_among (g.entries a) ∙ acts_same (cell_at s a).entries) ∙ ap (history.behind_too k ts) g.behind in
+      let behind : x.behind ≡ history.behind_too k ts h.behind = behind_arrived k a s h t g in
       let dooms : (u : ℕ) → was_given_up (cross_out a x).dooms u ≡ doomed_at (map (crossed_out a) xs) u =
       λ u. crossed_told a u x xs (n.tids ∙ sym (mapped_tids (book.lowered k ts) s.book.acts (λ y. refl))) (g.dooms u ∙ sym (lowered_status is_doomed k ts u s.book.acts))
-      (λ y e. seen_crossing x u y (g.dooms u ∙ live_of is_doomed u xs s.book.acts y (lowered_status is_doomed k ts u s.book.acts) e) (g.ordered u ∙ live_of is_ordered u xs s.book.acts y (lowered_status is_ordered k ts u s.book.acts) e)
-      (λ l.
-      let z = was_live u s.book.acts (live_of is_live_status u xs s.book.acts y (lowered_status is_live_status k ts u s.book.acts) e ∙ l) in
-      let q = arrive_ends w Of finish k a u s h z.0 (crossed_out a y) ok f.good f.before f.after z.1.0 z.1.1 (crossed_found a u xs y e) in
-      let i = found_tid u xs y e in (
-        q.m ∙ (ap (λ (m : ℕ). greatest (h.before m)) i ∙ ap (λ (b : ℕ → List ℕ). greatest (b u)) (sym g.before)),
-        q.n ∙ (ap (λ (m : ℕ). least_in (history.behind_too k ts h.behind m)) i ∙ (sym (same_least (history.behind_too k ts h.behind u)) ∙ ap (λ (b : ℕ → List ℕ). least (b u)) (sym behind))),
-      ))) in
+      (arrived_crosses Of finish k a u s h t ok f g) in
       record {
         placed = at_both t.placed h.placed a _ _ (ap (λ (ws : List Who). ws ++ OfBatch k ∷ []) (g.placed a)) g.placed;
         beyond = beyond_more (length w.text.opening.states) a _ h.placed (omega (arith, inside, f.cells)) g.beyond;
@@ -199,21 +222,26 @@ module _ {C : Type 0} (w : Fixed C) (fr : Frames C) where
       alone true = refl
       alone false = refl
 
-  -- nobody is
-  pub joins_kept : (Of : Tx → C → Type 0) (finish : C → List State → Alone) (u a : ℕ) (s : Machine C) (h : History) (t : Seen) → IsAllowed w (Ask u a) s → SimFacts w Of finish s h → TellsNames w s t → Tells w s h t
-      → book.in_the_way (lock_of u s.book.acts) (cell_at s a).entries ≡ None → AskedTells w u a s h None (cross_out a (act_placed_last u a t))
-  unfolding after grown
-  joins_kept Of finish u a s h t ok f n g none =
-      let inside = asks_in u a s ok in
+  -- ---- nobody is in its way
+
+  -- who is ahead of it there, by the events
+  pub ahead_same : (Of : Tx → C → Type 0) (finish : C → List State → Alone) (u a : ℕ) (s : Machine C) (h : History) (t : Seen) → SimFacts w Of finish s h → TellsNames w s t → Tells w s h t
+      → ahead_of u a t ≡ filter (λ (z : Lock). not (book.is_doomed_act s.book.acts z)) (book.met (lock_of u s.book.acts) (cell_at s a).entries)
+  ahead_same Of finish u a s h t f n g =
       let group = book.met (lock_of u s.book.acts) (cell_at s a).entries in
-      let m = max (cell_at s a).last (floor_at u s.book.acts (cell_at s a)) in
-      let joined = book.changed_act u (book.joins a m) s.book.acts in
-      let xs = raised (s.book.pairs ++ book.new_pairs u a group s.book.acts) joined in
-      let x : Seen = act_placed_last u a t in
-      let ahead : ahead_of u a t ≡ filter (λ (z : Lock). not (book.is_doomed_act s.book.acts z)) group =
-      ap (filter (λ (z : Lock). not (was_given_up t.dooms z.tid))) (met_told Of finish u a s h t f n g) ∙ filter_same (λ (z : Lock). not (was_given_up t.dooms z.tid)) (λ (z : Lock). not (book.is_doomed_act s.book.acts z)) group (λ z. ap not (g.dooms z.tid)) in
-      let pairs : with_pairs u a t ≡ history.asked_gains u a s h =
-      ap (λ (ps : List Pair). ps ++ map (stands_behind u a) (ahead_of u a t)) g.gains ∙ ap (λ (zs : List Lock). h.gains ++ map (stands_behind u a) zs) ahead in
+      ap (filter (λ (z : Lock). not (was_given_up t.dooms z.tid))) (met_told Of finish u a s h t f n g) ∙ filter_same (λ (z : Lock). not (was_given_up t.dooms z.tid)) (λ (z : Lock). not (book.is_doomed_act s.book.acts z)) group (λ z. ap not (g.dooms z.tid))
+
+  pub pairs_asked : (Of : Tx → C → Type 0) (finish : C → List State → Alone) (u a : ℕ) (s : Machine C) (h : History) (t : Seen) → SimFacts w Of finish s h → TellsNames w s t → Tells w s h t → with_pairs u a t ≡ history.asked_gains u a s h
+  pairs_asked Of finish u a s h t f n g =
+      ap (λ (ps : List Pair). ps ++ map (stands_behind u a) (ahead_of u a t)) g.gains ∙ ap (λ (zs : List Lock). h.gains ++ map (stands_behind u a) zs) (ahead_same Of finish u a s h t f n g)
+
+  -- the batches before an ACT, behind an Ask
+  pub before_asked : (Of : Tx → C → Type 0) (finish : C → List State → Alone) (u a : ℕ) (s : Machine C) (h : History) (t : Seen) → SimFacts w Of finish s h → TellsNames w s t → Tells w s h t
+      → (act_placed_last u a t).before ≡ history.asked_before true u a s h
+  before_asked Of finish u a s h t f n g =
+      let group = book.met (lock_of u s.book.acts) (cell_at s a).entries in
+      let ahead = ahead_same Of finish u a s h t f n g in
+      let pairs = pairs_asked Of finish u a s h t f n g in
       let more : gain u a t ≡ asked_set u a s h =
       ap (λ (ks : List ℕ). ks ++ (sets_of t.before (filter (rivals (lock_in t.acts u)) (t.left_sealed a)) ++ sets_of t.before (ahead_of u a t))) (g.kept a)
       ∙ (ap (λ (l : Lock). batches_in (h.long a) ++ (sets_of t.before (filter (rivals l) (t.left_sealed a)) ++ sets_of t.before (ahead_of u a t))) (lock_same u t.acts s.book.acts n.tids n.readers)
@@ -222,24 +250,59 @@ module _ {C : Type 0} (w : Fixed C) (fr : Frames C) where
       ∙ ap (λ (b : ℕ → List ℕ). batches_in (h.long a) ++ (sets_of b (filter (rivals (lock_of u s.book.acts)) (h.left_sealed a)) ++ sets_of b (filter (λ (z : Lock). not (book.is_doomed_act s.book.acts z)) group))) g.before))) in
       let first : with_at u (t.before u ++ gain u a t) t.before ≡ with_at u (h.before u ++ asked_set u a s h) h.before =
       ap (λ (b : ℕ → List ℕ). with_at u (b u ++ gain u a t) b) g.before ∙ ap (λ (ks : List ℕ). with_at u (h.before u ++ ks) h.before) more in
-      let before : x.before ≡ history.asked_before true u a s h =
       spread_same (with_pairs u a t) t.acts s.book.acts (with_at u (t.before u ++ gain u a t) t.before) n.tids
-      ∙ (ap (λ (ps : List Pair). spread_sets ps s.book.acts (with_at u (t.before u ++ gain u a t) t.before)) pairs ∙ ap (spread_sets (history.asked_gains u a s h) s.book.acts) first) in
-      let status : (p : Status → Bool) (v : ℕ) → status_at p xs v ≡ status_at p s.book.acts v =
-      λ p v. raised_status p (s.book.pairs ++ book.new_pairs u a group s.book.acts) v joined ∙ changed_status p u (book.joins a m) v s.book.acts (λ y. refl) (λ y. refl) in
-      let tids : map (λ (y : Act). y.tid) xs ≡ map (λ (y : Act). y.tid) s.book.acts =
-      raised_tids (s.book.pairs ++ book.new_pairs u a group s.book.acts) joined ∙ mapped_tids (λ (y : Act). book.change_if (y.tid == u) (book.joins a m) y) s.book.acts (λ y. if_tid (y.tid == u) (book.joins a m) y refl) in
-      let dooms : (v : ℕ) → was_given_up (cross_out a x).dooms v ≡ doomed_at (map (crossed_out a) xs) v =
-      λ v. crossed_told a v x xs (n.tids ∙ sym tids) (g.dooms v ∙ sym (status is_doomed v))
-      (λ y e. seen_crossing x v y (g.dooms v ∙ live_of is_doomed v xs s.book.acts y (status is_doomed v) e) (g.ordered v ∙ live_of is_ordered v xs s.book.acts y (status is_ordered v) e)
-      (λ l.
-      let z = was_live v s.book.acts (live_of is_live_status v xs s.book.acts y (status is_live_status v) e ∙ l) in
+      ∙ (ap (λ (ps : List Pair). spread_sets ps s.book.acts (with_at u (t.before u ++ gain u a t) t.before)) pairs ∙ ap (spread_sets (history.asked_gains u a s h) s.book.acts) first)
+
+  -- the ACTs behind the Ask, before who stands between batches is given up
+  abbrev pub joined_by : ℕ → ℕ → Machine C → List Act
+  joined_by u a s =
+      raised (s.book.pairs ++ book.new_pairs u a (book.met (lock_of u s.book.acts) (cell_at s a).entries) s.book.acts)
+      (book.changed_act u (book.joins a (max (cell_at s a).last (floor_at u s.book.acts (cell_at s a)))) s.book.acts)
+
+  pub joined_status : (p : Status → Bool) (u a v : ℕ) (s : Machine C) → status_at p (joined_by u a s) v ≡ status_at p s.book.acts v
+  joined_status p u a v s =
+      let m = max (cell_at s a).last (floor_at u s.book.acts (cell_at s a)) in
+      raised_status p (s.book.pairs ++ book.new_pairs u a (book.met (lock_of u s.book.acts) (cell_at s a).entries) s.book.acts) v (book.changed_act u (book.joins a m) s.book.acts) ∙ changed_status p u (book.joins a m) v s.book.acts (λ y. refl) (λ y. refl)
+
+  pub joined_tids : (u a : ℕ) (s : Machine C) → map (λ (y : Act). y.tid) (joined_by u a s) ≡ map (λ (y : Act). y.tid) s.book.acts
+  joined_tids u a s =
+      let m = max (cell_at s a).last (floor_at u s.book.acts (cell_at s a)) in
+      raised_tids (s.book.pairs ++ book.new_pairs u a (book.met (lock_of u s.book.acts) (cell_at s a).entries) s.book.acts) (book.changed_act u (book.joins a m) s.book.acts) ∙ mapped_tids (λ (y : Act). book.change_if (y.tid == u) (book.joins a m) y) s.book.acts (λ y. if_tid (y.tid == u) (book.joins a m) y refl)
+
+  -- the numbers of a live one are the ends of its sets, behind the Ask
+  pub asked_ends : (Of : Tx → C → Type 0) (finish : C → List State → Alone) (u a v : ℕ) (s : Machine C) (h : History) (t : Seen) → IsAllowed w (Ask u a) s → SimFacts w Of finish s h → TellsNames w s t → Tells w s h t
+      → book.in_the_way (lock_of u s.book.acts) (cell_at s a).entries ≡ None → (y : Act) → act_of v (joined_by u a s) ≡ Some y → is_live_status y.status ≡ true → EndsAre (act_placed_last u a t) v y
+  unfolding after grown
+  asked_ends Of finish u a v s h t ok f n g none y e l =
+      let group = book.met (lock_of u s.book.acts) (cell_at s a).entries in
+      let m = max (cell_at s a).last (floor_at u s.book.acts (cell_at s a)) in
+      let xs = joined_by u a s in
+      let z = was_live v s.book.acts (live_of is_live_status v xs s.book.acts y (joined_status is_live_status u a v s) e ∙ l) in
       let q = ask_ends w Of finish u a v s h z.0 (crossed_out a y) f.given ok f.good f.before f.after none z.1.0 z.1.1 (subst (λ (o : Option ℕ). act_of v (book.asked_acts o group u a m s.book) ≡ Some (crossed_out a y)) (sym none) (crossed_found a v xs y e)) in
       let i = found_tid v xs y e in
       let same : (grown w (Ask u a) s h).before ≡ history.asked_before true u a s h = ap (λ (o : Option ℕ). history.asked_before (is_none o) u a s h) none in (
-        q.m ∙ (ap (λ (b : ℕ → List ℕ). greatest (b y.tid)) same ∙ (ap (λ (j : ℕ). greatest (history.asked_before true u a s h j)) i ∙ ap (λ (b : ℕ → List ℕ). greatest (b v)) (sym before))),
+        q.m ∙ (ap (λ (b : ℕ → List ℕ). greatest (b y.tid)) same ∙ (ap (λ (j : ℕ). greatest (history.asked_before true u a s h j)) i ∙ ap (λ (b : ℕ → List ℕ). greatest (b v)) (sym (before_asked Of finish u a s h t f n g)))),
         q.n ∙ (ap (λ (j : ℕ). least_in (h.behind j)) i ∙ (sym (same_least (h.behind v)) ∙ ap (λ (b : ℕ → List ℕ). least (b v)) (sym g.behind))),
-      ))) in
+      )
+
+  -- its sets cross where its numbers do
+  pub asked_crosses : (Of : Tx → C → Type 0) (finish : C → List State → Alone) (u a v : ℕ) (s : Machine C) (h : History) (t : Seen) → IsAllowed w (Ask u a) s → SimFacts w Of finish s h → TellsNames w s t → Tells w s h t
+      → book.in_the_way (lock_of u s.book.acts) (cell_at s a).entries ≡ None → (y : Act) → act_of v (joined_by u a s) ≡ Some y → sets_cross (act_placed_last u a t) v ≡ is_crossed y
+  asked_crosses Of finish u a v s h t ok f n g none y e =
+      let xs = joined_by u a s in
+      seen_crossing (act_placed_last u a t) v y (g.dooms v ∙ live_of is_doomed v xs s.book.acts y (joined_status is_doomed u a v s) e) (g.ordered v ∙ live_of is_ordered v xs s.book.acts y (joined_status is_ordered u a v s) e)
+      (asked_ends Of finish u a v s h t ok f n g none y e)
+
+  pub joins_kept : (Of : Tx → C → Type 0) (finish : C → List State → Alone) (u a : ℕ) (s : Machine C) (h : History) (t : Seen) → IsAllowed w (Ask u a) s → SimFacts w Of finish s h → TellsNames w s t → Tells w s h t
+      → book.in_the_way (lock_of u s.book.acts) (cell_at s a).entries ≡ None → AskedTells w u a s h None (cross_out a (act_placed_last u a t))
+  unfolding after grown
+  joins_kept Of finish u a s h t ok f n g none =
+      let inside = asks_in u a s ok in
+      let xs = joined_by u a s in
+      let x : Seen = act_placed_last u a t in
+      let pairs = pairs_asked Of finish u a s h t f n g in
+      let dooms : (v : ℕ) → was_given_up (cross_out a x).dooms v ≡ doomed_at (map (crossed_out a) xs) v =
+      λ v. crossed_told a v x xs (n.tids ∙ sym (joined_tids u a s)) (g.dooms v ∙ sym (joined_status is_doomed u a v s)) (asked_crosses Of finish u a v s h t ok f n g none) in
       record {
         placed = at_both t.placed h.placed a _ _ (ap (λ (ws : List Who). ws ++ OfAct u ∷ []) (g.placed a)) g.placed;
         beyond = beyond_more (length w.text.opening.states) a _ h.placed (omega (arith, inside, f.cells)) g.beyond;
@@ -247,11 +310,11 @@ module _ {C : Type 0} (w : Fixed C) (fr : Frames C) where
             (λ e. ap (λ (ws : List Who). ws ++ OfAct u ∷ []) e ∙ sym (map-append who_of (cell_at s a).entries (ActEntry (lock_of u s.book.acts) ∷ []))) g.entries;
         kept = at_long a (h.long a ++ not_run (OfAct u) ∷ []) h.long t.kept (batches_join (h.long a) (not_run (OfAct u) ∷ []) ∙ append-nil (batches_in (h.long a))) g.kept;
         left_sealed = g.left_sealed;
-        before = before;
+        before = before_asked Of finish u a s h t f n g;
         behind = g.behind;
         gains = still_gaining (cross_out a x).dooms (map (crossed_out a) xs) (with_pairs u a t) (history.asked_gains u a s h) dooms pairs;
         dooms = dooms;
-        ordered = λ v. g.ordered v ∙ (sym (status is_ordered v) ∙ sym (crossed_ordered a v xs));
+        ordered = λ v. g.ordered v ∙ (sym (joined_status is_ordered u a v s) ∙ sym (crossed_ordered a v xs));
         next_c = g.next_c;
         members = g.members;
       }

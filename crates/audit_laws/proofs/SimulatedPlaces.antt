@@ -143,6 +143,23 @@ module _ {C : Type 0} (w : Fixed C) (fr : Frames C) where
 
   -- ---- a cascade
 
+  -- it takes an ACT along by the sets where it does by the numbers
+  pub reached_by : (Of : Tx → C → Type 0) (finish : C → List State → Alone) (k u : ℕ) (s : Machine C) (h : History) (t : Seen) → SimFacts w Of finish s h → Tells w s h t → (x : Act) → act_of u s.book.acts ≡ Some x
+      → (is_live t u && nat_le k (greatest (t.before u))) ≡ (is_live_status x.status && nat_le k x.m)
+  reached_by Of finish k u s h t f g x e = one (is_live_status x.status) refl
+    where
+      alive : is_live t u ≡ is_live_status x.status
+      alive =
+          ap (λ (b : Bool). not b && not (has_its_place (OfAct u) t.members)) (g.dooms u ∙ ap (holds (λ (z : Act). is_doomed z.status)) e)
+          ∙ (ap (λ (b : Bool). not (is_doomed x.status) && not b) (g.ordered u ∙ ap (holds (λ (z : Act). is_ordered z.status)) e) ∙ live_is x.status)
+
+      one : (b : Bool) → is_live_status x.status ≡ b → (is_live t u && nat_le k (greatest (t.before u))) ≡ (is_live_status x.status && nat_le k x.m)
+      one true l =
+          ap (λ (b : Bool). b && nat_le k (greatest (t.before u))) alive
+          ∙ ap (λ (m : ℕ). is_live_status x.status && nat_le k m)
+          (ap (λ (b : ℕ → List ℕ). greatest (b u)) g.before ∙ (ap (λ (z : ℕ). greatest (h.before z)) (sym ((found_tid w fr) u s.book.acts x e)) ∙ sym (f.stand.before_is_greatest u x e (live_not_doomed x.status l))))
+      one false l = ap (λ (b : Bool). b && nat_le k (greatest (t.before u))) (alive ∙ l) ∙ sym (ap (λ (b : Bool). b && nat_le k x.m) l)
+
   pub aborting_kept : (Of : Tx → C → Type 0) (finish : C → List State → Alone) (k : ℕ) (s : Machine C) (h : History) (t : Seen) → SimFacts w Of finish s h → TellsNames w s t → Tells w s h t
       → Tells w (after w (Abort k) s) (grown w (Abort k) s h) (with_cut w.text k (give_up (taken_by k t) t))
   unfolding after grown
@@ -168,21 +185,6 @@ module _ {C : Type 0} (w : Fixed C) (fr : Frames C) where
         members = g.members;
       }
     where
-      reached_by : (u : ℕ) (x : Act) → act_of u s.book.acts ≡ Some x → (is_live t u && nat_le k (greatest (t.before u))) ≡ (is_live_status x.status && nat_le k x.m)
-      reached_by u x e = one (is_live_status x.status) refl
-        where
-          alive : is_live t u ≡ is_live_status x.status
-          alive =
-              ap (λ (b : Bool). not b && not (has_its_place (OfAct u) t.members)) (g.dooms u ∙ ap (holds (λ (z : Act). is_doomed z.status)) e)
-              ∙ (ap (λ (b : Bool). not (is_doomed x.status) && not b) (g.ordered u ∙ ap (holds (λ (z : Act). is_ordered z.status)) e) ∙ live_is x.status)
-
-          one : (b : Bool) → is_live_status x.status ≡ b → (is_live t u && nat_le k (greatest (t.before u))) ≡ (is_live_status x.status && nat_le k x.m)
-          one true l =
-              ap (λ (b : Bool). b && nat_le k (greatest (t.before u))) alive
-              ∙ ap (λ (m : ℕ). is_live_status x.status && nat_le k m)
-              (ap (λ (b : ℕ → List ℕ). greatest (b u)) g.before ∙ (ap (λ (z : ℕ). greatest (h.before z)) (sym ((found_tid w fr) u s.book.acts x e)) ∙ sym (f.stand.before_is_greatest u x e (live_not_doomed x.status l))))
-          one false l = ap (λ (b : Bool). b && nat_le k (greatest (t.before u))) (alive ∙ l) ∙ sym (ap (λ (b : Bool). b && nat_le k x.m) l)
-
       taken : (u : ℕ) → was_given_up (taken_by k t) u ≡ holds (λ (x : Act). is_live_status x.status && nat_le k x.m) (act_of u s.book.acts)
       taken u =
           given_made u (λ (x : Begun). record { tid = x.tid; why = Taken k }) (λ (v : ℕ). is_live t v && nat_le k (greatest (t.before v))) t.acts (λ x. refl)
@@ -191,4 +193,4 @@ module _ {C : Type 0} (w : Fixed C) (fr : Frames C) where
         where
           by : (o : Option Act) → act_of u s.book.acts ≡ o → (is_some o && (is_live t u && nat_le k (greatest (t.before u)))) ≡ holds (λ (x : Act). is_live_status x.status && nat_le k x.m) o
           by None e = refl
-          by (Some x) e = reached_by u x e
+          by (Some x) e = reached_by Of finish k u s h t f g x e

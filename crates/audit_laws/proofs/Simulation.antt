@@ -52,7 +52,7 @@ module _ {C : Type 0} (w : Fixed C) (fr : Frames C) where
   told_kept Of finish (Trim k a) s h t ok f n g = (trimming_kept w fr) k a s h t (trims_in w Of finish k a s h f.given ok f.good) g
   told_kept Of finish e s h t ok f n g = (still w fr) w.code.only_reads e (after w e s) (grown w e s h) t refl ((still_here w fr) e s h t refl g)
 
-  happens : (Of : Tx → C → Type 0) (finish : C → List State → Alone) (e : Event) (s : Machine C) (h : History) (t : Seen) → IsAllowed w e s → SimFacts w Of finish s h → TellsNames w s t → Tells w s h t
+  pub happens : (Of : Tx → C → Type 0) (finish : C → List State → Alone) (e : Event) (s : Machine C) (h : History) (t : Seen) → IsAllowed w e s → SimFacts w Of finish s h → TellsNames w s t → Tells w s h t
       → Tells w (after w e s) (grown w e s h) (happened w.code.only_reads w.text e t)
   happens Of finish e s h t ok f n g =
       let x = added w.code.only_reads w.text e t in
@@ -72,7 +72,7 @@ module _ {C : Type 0} (w : Fixed C) (fr : Frames C) where
   no_entries b zero (x ∷ states) = refl
   no_entries b (suc a) (x ∷ states) = no_entries b a states
 
-  told_first : Tells w (opening w) no_history (nothing_seen w.text)
+  pub told_first : Tells w (opening w) no_history (nothing_seen w.text)
   told_first = record {
     placed = λ a. refl;
     beyond = λ a l. refl;
@@ -95,10 +95,14 @@ module _ {C : Type 0} (w : Fixed C) (fr : Frames C) where
   told_members ran (m ∷ ms) (d ∷ ds) h k =
       (record { who = (h.0).who; tid = (h.0).tid; tx = (h.0).tx; place = (h.0).place; reader = (h.0).reader; views = λ a e. ap (λ (u : ℕ). is_among u (ran a)) (h.0).tid ∙ k.0 e a }, told_members ran ms ds h.1 k.1)
 
+  pub told_of_run : (Of : Tx → C → Type 0) (finish : C → List State → Alone) (es : List Event) → ((fs : List Event) → IsRun w fs → SimFacts w Of finish (reached w fs) (history.history w fs)) → IsRun w es
+      → Tells w (reached w es) (history.history w es) (told.seen w.code.only_reads w.text es)
+  told_of_run Of finish es f run = told_along Of finish es (opening w) no_history (nothing_seen w.text) f run (at_opening w fr) told_first
+
   pub places_seen : (Of : Tx → C → Type 0) (finish : C → List State → Alone) (es : List Event) → ((fs : List Event) → IsRun w fs → SimFacts w Of finish (reached w fs) (history.history w fs)) → IsRun w es → RunsAreSeen w es
       → TellsPlaced w.text (history.history w es) (told.seen w.code.only_reads w.text es)
   places_seen Of finish es f run ran =
-      let g = told_along Of finish es (opening w) no_history (nothing_seen w.text) f run (at_opening w fr) told_first in
+      let g = told_of_run Of finish es f run in
       record {
         placed = λ a l. g.placed a;
         beyond = λ a l. g.placed a ∙ g.beyond a l;

@@ -1,3 +1,7 @@
+pub mod Acts
+pub mod Fits
 pub mod Half
+pub mod InOrder
 pub mod Names
+pub mod Programs
 pub mod RunsTold

@@ -8,16 +8,20 @@ ghost use Rattle.protocol.specs.Laws.{OfEveryRun};
 ghost use Rattle.protocol.specs.Runs.{IsRun};
 ghost use Rattle.audit_words.specs.Beside.{CommitsStand, TellsPlaced};
 ghost use Rattle.audit_words.specs.Happenings.{seen};
-ghost use Rattle.audit_laws.specs.Half.{HasPlaces, HasPlacesWhereTold, IsAuditedUpToEvidence, IsHalfAudited};
+ghost use Rattle.audit_words.specs.Reports.{RunIsAudited};
+ghost use Rattle.audit_laws.specs.Acts.{ActsAreSeen};
+ghost use Rattle.audit_laws.specs.Fits.{VerdictsAreInRange};
+ghost use Rattle.audit_laws.specs.Half.{HasEvidence, HasPlaces, HasPlacesWhereTold, IsHalfAudited};
 ghost use Rattle.audit_laws.specs.Names.{NamesAreSeen};
 ghost use Rattle.audit_laws.specs.RunsTold.{RunsAreSeen};
 
 use protocol_laws::{
-    batches_settle_in_order, committed_are_those_with_places, frame, transactions_are_in_one_place,
+    batches_settle_in_order, committed_are_those_with_places, frame, numbers_are_in_range,
+    transactions_are_in_one_place,
 };
 use protocol_theorems::{
     actors_lie_in_order, committed_transactions_are_in_order, numbers_are_the_ends_of_sets,
-    runs_that_cannot_go_on_have_answered, sizes_hold, what_is_new_is_not_there,
+    places_are_few, runs_that_cannot_go_on_have_answered, sizes_hold, what_is_new_is_not_there,
 };
 use protocol_verdicts::{verdicts_have_evidence, verdicts_tell_of_serial_runs};
 use run_effects::batches_are_counted;
@@ -89,6 +93,18 @@ pub fn places_are_seen<C>()
     what_is_new_is_not_there::<C>();
 }
 
+/// The events of a run tell of each ACT whether it is given up, and why first, as its status has it; and the commit number that is
+/// drawn next.
+pub fn acts_are_seen<C>()
+    ensures { OfEveryRun (λ (w : Fixed C) finish es. ActsAreSeen w es) }
+{
+    frame::<C>();
+    committed_are_those_with_places::<C>();
+    actors_lie_in_order::<C>();
+    numbers_are_the_ends_of_sets::<C>();
+    what_is_new_is_not_there::<C>();
+}
+
 /// Where no event is allowed any more, who is told a place has it, and who was placed before another one, but for two readers, has
 /// a place below it.
 pub fn quiet_runs_have_their_places<C>()
@@ -98,12 +114,44 @@ pub fn quiet_runs_have_their_places<C>()
     places_are_seen::<C>();
 }
 
-/// Where no event is allowed any more, the papers of the run meet the first five clauses. Its events are numbered, and its report
-/// has its shape. Who is told a place has it, gives there what it is told, and has it above the places of those that were placed
-/// before it, but for two readers.
-pub fn quiet_runs_are_audited_up_to_evidence<C>()
-    ensures { OfEveryRun (λ (w : Fixed C) finish es. IsAuditedUpToEvidence w finish es) }
+/// Where no event is allowed any more, whoever is told that it was aborted has its evidence in the events: an ACT died of the older
+/// one that it names, stood between the two batches that it names, or was taken along by the cascade; a PACT failed with its batch,
+/// run behind what counts of the report's committed, or its batch was taken along.
+pub fn quiet_runs_have_evidence<C>()
+    ensures { OfEveryRun (λ (w : Fixed C) finish es. HasEvidence w finish es) }
+{
+    names_are_seen::<C>();
+    acts_are_seen::<C>();
+    frame::<C>();
+    transactions_are_in_one_place::<C>();
+    sizes_hold::<C>();
+    what_is_new_is_not_there::<C>();
+    committed_transactions_are_in_order::<C>();
+    runs_that_cannot_go_on_have_answered::<C>();
+    verdicts_have_evidence::<C>();
+    verdicts_tell_of_serial_runs::<C>();
+}
+
+/// Where no event is allowed any more, the papers of the run are in order: its trace with what it printed meets all six clauses.
+pub fn quiet_runs_are_audited<C>()
+    ensures { OfEveryRun (λ (w : Fixed C) finish es. RunIsAudited w finish es) }
 {
     quiet_runs_are_half_audited::<C>();
     quiet_runs_have_their_places::<C>();
+    quiet_runs_have_evidence::<C>();
+}
+
+/// Each number of a name that a verdict of a run tells fits its type: batches, tids and commit numbers have 64 bits, transactions
+/// 32, and actors 16.
+pub fn verdicts_are_in_range<C>()
+    ensures { OfEveryRun (λ (w : Fixed C) finish es. VerdictsAreInRange w es) }
+{
+    frame::<C>();
+    numbers_are_in_range::<C>();
+    sizes_hold::<C>();
+    places_are_few::<C>();
+    transactions_are_in_one_place::<C>();
+    committed_transactions_are_in_order::<C>();
+    verdicts_have_evidence::<C>();
+    verdicts_tell_of_serial_runs::<C>();
 }

@@ -2,8 +2,8 @@
 ghost use Rattle.std.specs.Prelude.{◌≡◌, ℕ, List};
 ghost use Rattle.snap_base.specs.declared.transactions.State.{State};
 ghost use Rattle.snap_base.specs.declared.transactions.Tx.{Tx};
-ghost use Rattle.aml_check.specs.Meaning as meaning;
-ghost use Rattle.aml_tree.specs.Tree.{CheckedMethod};
+ghost use Rattle.aml_slice.specs.aml_check.Meaning as meaning;
+ghost use Rattle.aml_slice.specs.aml_tree.Tree.{CheckedMethod};
 ghost use Rattle.protocol.specs.Events.{Event};
 ghost use Rattle.protocol.specs.Fixed.{Text};
 ghost use Rattle.audit_words.specs.Audited.{Audited, IsOff};

@@ -1,5 +1,5 @@
 //! What a run prints, line by line, and how lines are read back.
-ghost use Rattle.std.specs.Prelude.{◌≡◌, List};
+ghost use Rattle.std.specs.Prelude.{◌≡◌, ℕ, List};
 ghost use Rattle.std.specs.List.{AllByRecursion, flat_map};
 ghost use Rattle.protocol.specs.Events.{Event};
 ghost use Rattle.protocol.specs.Fixed.{Fixed};
@@ -15,4 +15,9 @@ pub fn reports_are_lines<C>()
 /// Lines of a form, each printed with its line feed, are a report of these lines.
 pub fn printed_forms_are_reports()
     ensures { (ls : List Line) → AllByRecursion IsWellFormedLine ls → IsReport (flat_map (λ l. ended (line_text l)) ls) ls }
+{}
+
+/// A text is a report of one list of lines alone.
+pub fn one_report()
+    ensures { (text : List ℕ) (ls ms : List Line) → IsReport text ls → IsReport text ms → ls ≡ ms }
 {}
