@@ -1,0 +1,6 @@
+pub mod CutLines
+pub mod LineKinds
+pub mod LineWords
+pub mod ReadLines
+pub mod WordCuts
+pub mod WordLists

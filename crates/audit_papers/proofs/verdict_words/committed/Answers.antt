@@ -1,0 +1,11 @@
+use Rattle.audit_papers.proofs.WordLists.{behind_one}
+use Rattle.audit_papers.proofs.verdict_words.committed.Goals as goal
+
+pub returns-in_err-rest : goal.returns-in_err-rest
+returns-in_err-rest c = rw c.from_residual.ensures (λ p v h e. c.in_err-rest.ensures _ e)
+
+pub returns-in_err-place : goal.returns-in_err-place
+returns-in_err-place c = rw c.from_residual-in_err-place.ensures (λ p v h e. c.in_err-place.ensures p _ h.0 (behind_one c.in_ok-rest.ensures e))
+
+pub returns-in_err-value : goal.returns-in_err-value
+returns-in_err-value c = rw c.from_residual-in_err-value.ensures (λ p v h e. c.in_err-value.ensures v h.1 (behind_one c.in_ok-place.ensures.1 (behind_one c.in_ok-rest.ensures e)))

@@ -1,0 +1,4 @@
+pub mod Bytes
+pub mod Found
+pub mod ReportLines
+pub mod LineWords

@@ -1,0 +1,12 @@
+pub mod Coming
+pub mod Cutting
+pub mod Fitting
+pub mod GivenUp
+pub mod Knows
+pub mod Leaves
+pub mod Risen
+pub mod Rivalry
+pub mod Settings
+pub mod Stands
+pub mod Tellings
+pub mod Touching
