@@ -7,9 +7,10 @@ use Rattle.snap_work.specs.declared.faults.Limit.TheVariants as limit
 use Rattle.snap_work.specs.declared.faults.WorkCause.TheVariants as cause
 use Rattle.snap_work.specs.declared.faults.WorkFault.{WorkFault}
 use Rattle.snap_work.specs.Works.{Work}
-use Rattle.work_text.specs.Reads.{Reads, IsWork, IsFirstWorkFault}
+use Rattle.work_gen.specs.work_text.Reads.{Reads, IsWork, IsFirstWorkFault}
 use Rattle.snap_run.specs.Uses.{Reading}
 use Rattle.snap_run.specs.Answers.{ReadsEnough, OfText}
+use Rattle.snap_run.specs.Audits.{IsTooLong, OfInput}
 
 -- ---- the input
 
@@ -44,3 +45,19 @@ pub of_text : (r : Reading) (bytes : List ℕ) (w : Work) → IsWork bytes w →
     → OfText r (λ v. v ≡ w)
 of_text r bytes w work short moved whole =
     (whole short, Consumes-whole r.left_before r.left_after bytes (λ input. (v : Work) × IsWork input v × (v ≡ w)) moved (whole short) (w, work, refl))
+
+-- what was read is the input, all of it
+pub of_input : (r : Reading) (bytes : List ℕ) (P : List ℕ → Type 0) → P bytes → length bytes ≤ 8388608 → Consumes r.left_before r.left_after bytes → (length bytes ≤ 8388608 → IsAtEnd r.left_after)
+    → OfInput r P
+of_input r bytes P holds short moved whole =
+    (whole short, Consumes-whole r.left_before r.left_after bytes (λ input. (length input ≤ 8388608) × P input) moved (whole short) (short, holds))
+
+-- so much was read, and so much the input has
+longer : (old new : Option (List ℕ)) (bytes : List ℕ) → 8388608 < length bytes → Consumes old new bytes → IfSome old (λ input. 8388608 < length input)
+longer None new bytes long moved = tt
+longer (Some xs) None bytes long moved = absurd moved
+longer (Some xs) (Some ys) bytes long moved = omega (arith, ap length moved, length-append bytes ys, long)
+
+-- more was read than an input may have
+pub is_too_long : (r : Reading) (bytes : List ℕ) → 8388608 < length bytes → length bytes ≤ 8388609 → Consumes r.left_before r.left_after bytes → IsTooLong r
+is_too_long r bytes long most moved = ((bytes, moved, omega (arith, long, most)), longer r.left_before r.left_after bytes long moved)

@@ -5,8 +5,8 @@ use Rattle.std.specs.List.{HoldsAt}
 use Rattle.std.proofs.lemmas.List.{take_more, take_all}
 use Rattle.std.proofs.lemmas.List.Concat.{flat_map-append}
 use Rattle.std.proofs.lemmas.Option.{slice_get_past, slice_get_read}
-use Rattle.snap_base.specs.declared.ids.Bid.{Bid}
-use Rattle.snap_base.specs.declared.ids.Tid.{Tid}
+use Rattle.run_work.specs.snap_base.declared.ids.Bid.{Bid}
+use Rattle.run_work.specs.snap_base.declared.ids.Tid.{Tid}
 use Rattle.snap_recover.specs.declared.openings.Kept.{Kept}
 use Rattle.snap_report.specs.Lines.{all_kept_text, batch_text, kept_text, lines_of, pact_place}
 

@@ -1,3 +1,4 @@
+pub mod AuditComplete
 pub mod Complete
 pub mod InputLaws
 pub mod KeptLines

@@ -4,7 +4,7 @@ use Rattle.std.specs.List.{AllZip}
 use Rattle.snap_report.specs.declared.statuses.Status.{Status}
 use Rattle.snap_report.specs.declared.statuses.Status.TheVariants as status
 use Rattle.snap_work.specs.Works.{Work}
-use Rattle.work_text.specs.Reads.{IsWork}
+use Rattle.work_gen.specs.work_text.Reads.{IsWork}
 use Rattle.record_log.specs.Records.{KeepsRecords}
 use Rattle.log_opening.specs.Devices.{Device, IsOpenedAtMost}
 use Rattle.run_work.specs.run_opening.Opens.{MayOpen}
@@ -13,16 +13,17 @@ use Rattle.run_work.specs.Runs.{Printing, RunUse, IsAnswerOf, IsWorkAnswer, IsOf
 use Rattle.run_work.specs.Writings.{Writing, WritesNothing}
 use Rattle.snap_recover.specs.declared.openings.Opening.{Opening}
 use Rattle.command_words.specs.declared.commands.Command.{Command}
-use Rattle.command_words.specs.declared.commands.Command.TheVariants.{Run, Recover, Migrate, Gen, Bench}
+use Rattle.command_words.specs.declared.commands.Command.TheVariants.{Run, Recover, Migrate, Audit, Gen, Bench}
 use Rattle.command_words.specs.CommandLaws.{OneCommand}
 use Rattle.command_words.specs.Commands.{IsCommand}
-use Rattle.command_words.specs.Words.{AreLastWorkers, IsRunCommand, IsRecover, IsMigrate, IsGen, IsBench, IsForm, IsUsageFault}
+use Rattle.command_words.specs.Words.{AreLastWorkers, IsRunCommand, IsRecover, IsMigrate, IsAudit, IsGen, IsBench, IsForm, IsUsageFault}
 use Rattle.command_words.specs.Workers.{workers_in, AskFor}
 use Rattle.snap_run.specs.Uses.{Reading, Use}
+use Rattle.snap_run.specs.Audits.{IsAuditAnswer}
 use Rattle.snap_run.specs.Migrations.{IsMigrateAnswer, migrate_done, migrate_refused, migrate_memory, migrate_log_fault, migrate_out_fault}
 use Rattle.snap_run.specs.Recoveries.{IsRecoverAnswer, recover_done, recover_refused, recover_memory, recover_log_fault, recover_out_fault}
 use Rattle.snap_run.specs.Answers.{OfText, schedule_asked, ran_of, ReadsNothing, IsInputAnswer, input_refused, input_memory, input_read_fault, TouchesNothing, TakesNoEvent, IsGenAnswer}
-use Rattle.snap_run.specs.Answers.{IsMeasured, ran, recovered, generated, measured, migrated, refused, GetsNoCall, IsUntroubled, MayBeMeasured}
+use Rattle.snap_run.specs.Answers.{IsMeasured, ran, recovered, generated, measured, migrated, audited, refused, GetsNoCall, IsUntroubled, MayBeMeasured}
 use Rattle.work_gen.specs.Generated.{generated_text}
 use Rattle.snap_run.specs.Outcomes.{IsOutcome}
 use Rattle.record_log.specs.txn_records.declared.records.Record.{Record}
@@ -59,13 +60,29 @@ gen_not_migrate one words count seed gen migrate = let e : Gen count seed ≡ Mi
 pub bench_not_migrate : OneCommand → (words : List (List ℕ)) (count seed n : ℕ) → IsBench words count seed n → IsMigrate words → ⊥
 bench_not_migrate one words count seed n bench migrate = let e : Bench count seed n ≡ Migrate = one words (Bench count seed n) Migrate bench migrate in cc
 
+pub run_not_audit : OneCommand → (words : List (List ℕ)) (n seed : ℕ) → IsRunCommand words n seed → IsAudit words → ⊥
+run_not_audit one words n seed run audit = let e : Run n seed ≡ Audit = one words (Run n seed) Audit run audit in cc
+
+pub recover_not_audit : OneCommand → (words : List (List ℕ)) → IsRecover words → IsAudit words → ⊥
+recover_not_audit one words recover audit = let e : Recover ≡ Audit = one words Recover Audit recover audit in cc
+
+pub migrate_not_audit : OneCommand → (words : List (List ℕ)) → IsMigrate words → IsAudit words → ⊥
+migrate_not_audit one words migrate audit = let e : Migrate ≡ Audit = one words Migrate Audit migrate audit in cc
+
+pub gen_not_audit : OneCommand → (words : List (List ℕ)) (count seed : ℕ) → IsGen words count seed → IsAudit words → ⊥
+gen_not_audit one words count seed gen audit = let e : Gen count seed ≡ Audit = one words (Gen count seed) Audit gen audit in cc
+
+pub bench_not_audit : OneCommand → (words : List (List ℕ)) (count seed n : ℕ) → IsBench words count seed n → IsAudit words → ⊥
+bench_not_audit one words count seed n bench audit = let e : Bench count seed n ≡ Audit = one words (Bench count seed n) Audit bench audit in cc
+
 -- a command is a form
 form_of : (words : List (List ℕ)) (c : Command) → IsCommand words c → IsForm words
 form_of words (Run n seed) is = inl (n, seed, is)
 form_of words Recover is = inr (inl is)
 form_of words (Gen count seed) is = inr (inr (inl (count, seed, is)))
 form_of words (Bench count seed n) is = inr (inr (inr (inl (count, seed, n, is))))
-form_of words Migrate is = inr (inr (inr (inr is)))
+form_of words Migrate is = inr (inr (inr (inr (inl is))))
+form_of words Audit is = inr (inr (inr (inr (inr is))))
 
 -- the command that they are says how many workers they ask for
 pub asked : OneCommand → (words : List (List ℕ)) (n : ℕ) (c : Command) → AskFor words n → IsCommand words c → workers_in c ≡ n
@@ -156,6 +173,7 @@ run_calls p r status.ReadFault a none = a
 run_calls p r (status.LogFault log) a none = none
 run_calls p r status.OutFault a none = none
 run_calls p r status.TraceFault a none = none
+run_calls p r (status.Audit fault) a none = a
 
 -- ---- the other command, and no command
 
@@ -197,7 +215,7 @@ usage_outcome u place fault reads nothing = record {
   answer = refused place refl fault reads nothing;
   opened = λ recover. absurd (fault.no_form (inr (inl recover)));
   kept = λ recover. absurd (fault.no_form (inr (inl recover)));
-  migrated = λ migrate. absurd (fault.no_form (inr (inr (inr (inr migrate)))));
+  migrated = λ migrate. absurd (fault.no_form (inr (inr (inr (inr (inl migrate))))));
 }
 
 pub gen_outcome : OneCommand → (u : Use) (count seed : ℕ) (s : Status) → IsGen u.words count seed → ReadsNothing u.reading → TakesNoEvent u → IsGenAnswer (generated_text count seed) u.writing s → IsOutcome u s
@@ -215,6 +233,14 @@ bench_outcome one u count seed n s bench reads a = record {
   opened = λ recover. absurd (recover_not_bench one u.words count seed n recover bench);
   kept = λ recover. absurd (recover_not_bench one u.words count seed n recover bench);
   migrated = λ migrate. absurd (bench_not_migrate one u.words count seed n bench migrate);
+}
+
+pub audit_outcome : OneCommand → (u : Use) (s : Status) → IsAudit u.words → TakesNoEvent u → IsAuditAnswer u.reading u.writing s → IsOutcome u s
+audit_outcome one u s audit nothing a = record {
+  answer = audited audit nothing a;
+  opened = λ recover. absurd (recover_not_audit one u.words recover audit);
+  kept = λ recover. absurd (recover_not_audit one u.words recover audit);
+  migrated = λ migrate. absurd (migrate_not_audit one u.words migrate audit);
 }
 
 -- the words tell one count and one seed

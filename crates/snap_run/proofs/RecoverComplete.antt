@@ -26,10 +26,10 @@ use Rattle.log_opening.specs.Kept.{logs_said, DeviceHolds, AreGiven, IsLogAsked,
 use Rattle.run_work.specs.run_opening.Opens.{TellsRecords}
 use Rattle.run_work.specs.run_recovery.Recoverable.{AreRecoverable}
 use Rattle.snap_run.specs.Uses.{Use}
-use Rattle.snap_run.specs.Answers.{IsAnswer, ran, recovered, generated, measured, migrated, refused}
+use Rattle.snap_run.specs.Answers.{IsAnswer, ran, recovered, generated, measured, migrated, audited, refused}
 use Rattle.snap_run.specs.Migrations.{IsMigrateAnswer, migrate_done, migrate_refused, migrate_memory, migrate_log_fault, migrate_out_fault}
 use Rattle.snap_run.specs.Recoveries.{IsRecoverAnswer, recover_done, recover_refused, recover_memory, recover_log_fault, recover_out_fault}
-use Rattle.snap_run.proofs.Outcomes.{not_both, recover_not_gen, recover_not_bench, run_not_migrate, recover_not_migrate, gen_not_migrate, bench_not_migrate}
+use Rattle.snap_run.proofs.Outcomes.{not_both, recover_not_gen, recover_not_bench, run_not_migrate, recover_not_migrate, gen_not_migrate, bench_not_migrate, recover_not_audit, migrate_not_audit}
 
 -- what the law refused_is_not_recovered of snap_recover says
 abbrev pub NeverBoth : Type 0
@@ -161,6 +161,7 @@ module _ (one : OneCommand) (laws : RecordLaws) (never : NeverBoth) (u : Use) (l
     completed_recover recover s (generated count seed gen _ _ _) = absurd (recover_not_gen one u.words count seed recover gen)
     completed_recover recover s (measured count seed n bench _ _) = absurd (recover_not_bench one u.words count seed n recover bench)
     completed_recover recover s (migrated migrate _ _ _ _) = absurd (recover_not_migrate one u.words recover migrate)
+    completed_recover recover s (audited audit _ _) = absurd (recover_not_audit one u.words recover audit)
     completed_recover recover s (refused place is fault _ _) = absurd (fault.no_form (inr (inl recover)))
 
     pub completed_migrate : IsMigrate u.words → (s : Status) → IsAnswer u s → (s ≡ status.Done) ⊎ (s ≡ status.Memory)
@@ -169,4 +170,5 @@ module _ (one : OneCommand) (laws : RecordLaws) (never : NeverBoth) (u : Use) (l
     completed_migrate migrate s (generated count seed gen _ _ _) = absurd (gen_not_migrate one u.words count seed gen migrate)
     completed_migrate migrate s (measured count seed n bench _ _) = absurd (bench_not_migrate one u.words count seed n bench migrate)
     completed_migrate migrate s (migrated _ _ _ _ a) = migrate_completed s a
-    completed_migrate migrate s (refused place is fault _ _) = absurd (fault.no_form (inr (inr (inr (inr migrate)))))
+    completed_migrate migrate s (audited audit _ _) = absurd (migrate_not_audit one u.words migrate audit)
+    completed_migrate migrate s (refused place is fault _ _) = absurd (fault.no_form (inr (inr (inr (inr (inl migrate))))))

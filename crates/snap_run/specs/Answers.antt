@@ -8,14 +8,15 @@ use Rattle.snap_report.specs.declared.statuses.Status.{Status}
 use Rattle.snap_report.specs.declared.statuses.Status.TheVariants as status
 use Rattle.snap_work.specs.declared.faults.WorkCause.{WorkCause}
 use Rattle.snap_work.specs.Works.{Work}
-use Rattle.work_text.specs.Reads.{IsWork, IsFirstWorkFault}
+use Rattle.work_gen.specs.work_text.Reads.{IsWork, IsFirstWorkFault}
 use Rattle.run_work.specs.run_opening.Opens.{MayOpen}
 use Rattle.run_work.specs.run_recovery.Schedules.{Schedule, seeded, free}
-use Rattle.command_words.specs.Words.{IsRunCommand, IsRecover, IsMigrate, IsGen, IsBench, IsUsageFault}
+use Rattle.command_words.specs.Words.{IsRunCommand, IsRecover, IsMigrate, IsAudit, IsGen, IsBench, IsUsageFault}
 use Rattle.snap_run.specs.Uses.{Reading, Use}
 use Rattle.run_work.specs.Writings.{Writing, WritesNothing, Writes, WritesFront}
 use Rattle.run_work.specs.Runs.{RunUse, IsWorkAnswer, IsBenchAnswer}
 use Rattle.work_gen.specs.Generated.{generated_text}
+use Rattle.snap_run.specs.Audits.{IsAuditAnswer}
 use Rattle.snap_run.specs.Migrations.{IsMigrateAnswer}
 use Rattle.snap_run.specs.Recoveries.{IsRecoverAnswer}
 use Rattle.snap_work.specs.declared.limits.TheConstants.{LONGEST_WORK}
@@ -98,6 +99,8 @@ pub data IsAnswer (u : Use) (s : Status) : Type 0 where
   measured : (count seed workers : ℕ) → IsBench u.words count seed workers → ReadsNothing u.reading → IsMeasured u (schedule_asked workers 0) count seed s → IsAnswer u s
   -- the logs of format 1 are made ones of format 2
   migrated : IsMigrate u.words → ReadsNothing u.reading → u.kept ≡ [] → WritesNothing u.tracing → IsMigrateAnswer u.devices_before u.devices_after u.writing s → IsAnswer u s
+  -- the input is audited
+  audited : IsAudit u.words → TakesNoEvent u → IsAuditAnswer u.reading u.writing s → IsAnswer u s
   -- the words are no form
   refused : (place : ℕ) → s ≡ status.Usage place → IsUsageFault u.words place → ReadsNothing u.reading → TouchesNothing u → IsAnswer u s
 
@@ -112,6 +115,7 @@ GetsNoCall status.ReadFault = ⊤
 GetsNoCall (status.LogFault log) = ⊥
 GetsNoCall status.OutFault = ⊥
 GetsNoCall status.TraceFault = ⊥
+GetsNoCall (status.Audit fault) = ⊤
 
 -- The words run the input; it stands for a work; its logs hold records on which a run of it begins, if any; and no count
 -- rises.

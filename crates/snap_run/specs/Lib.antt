@@ -1,4 +1,5 @@
 pub mod Answers
+pub mod Audits
 pub mod Migrations
 pub mod Outcomes
 pub mod Recoveries

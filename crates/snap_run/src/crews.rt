@@ -22,7 +22,7 @@ use snap_report::Status;
 use std::alloc::Global;
 use std::sync::Wait;
 use std::thread::Threads;
-use work_text::one_work;
+use work_gen::one_work;
 
 /// Reads the words, which ask for workers, and does what they ask for.
 pub(crate) fn crew_answer<

@@ -3,22 +3,28 @@ ghost use Rattle.std.specs.Prelude.{◌≡◌, ◌⊎◌, ℕ, List};
 ghost use Rattle.command_words.specs.Words.{IsBench};
 ghost use Rattle.run_work.specs.Runs.{IsOfLogs};
 ghost use Rattle.snap_recover.specs.declared.openings.Opening.{Opening};
+ghost use Rattle.snap_outside.specs.Causes.{Rose};
+ghost use Rattle.snap_report.specs.declared.audit_faults.AuditFault.{AuditFault};
 ghost use Rattle.snap_report.specs.declared.statuses.Status.{Status};
 ghost use Rattle.snap_report.specs.declared.statuses.Status.TheVariants as status;
 ghost use Rattle.snap_run.specs.Answers.{IsUntroubled, IsPrintable, MayBeMeasured};
+ghost use Rattle.snap_run.specs.Audits.{IsAuditable};
 ghost use Rattle.snap_run.specs.Migrations.{IsMigratable};
 ghost use Rattle.snap_run.specs.Outcomes.{IsOutcome};
 ghost use Rattle.snap_run.specs.Recoveries.{IsRecoverable};
 ghost use Rattle.snap_run.specs.Uses.{Use};
 ghost use Rattle.snap_work.specs.Works.{Work};
+ghost use Rattle.trace_audit.specs.AuditNos.{fault_meant};
+ghost use Rattle.trace_audit.specs.audit_words.Inputs.{IsFirstFault, IsInOrder};
 ghost use Rattle.record_log.specs.txn_records.declared.records.Record.{Record};
 
 use command_words::one_command;
+use input_laws::{an_input_in_order_has_no_fault, one_first_fault};
 use record_log::{no_more_records, one_list_of_records};
 use run_work::Event;
 use snap_recover::refused_is_not_recovered;
 use snap_report::Status;
-use work_text::fault_or_work;
+use work_gen::fault_or_work;
 
 /// How the top call ended, and what it gives back of what it was handed.
 #[derive(Drop)]
@@ -43,6 +49,10 @@ pub(crate) fn done_or_no_memory()
     ensures complete_recover { (u : Use) (s : Status) (kept : List (List Record)) → IsOutcome u s → IsRecoverable u kept → (s ≡ status.Done) ⊎ (s ≡ status.Memory) }
     ensures complete_migrate { (u : Use) (s : Status) (kept : List (List Record)) → IsOutcome u s → IsMigratable u kept → (s ≡ status.Done) ⊎ (s ≡ status.Memory) }
     ensures complete_gen { (u : Use) (s : Status) → IsOutcome u s → IsPrintable u → (s ≡ status.Done) ⊎ (s ≡ status.Memory) }
+    ensures complete_audit { (u : Use) (s : Status) (input : List ℕ)
+        → IsOutcome u s → IsAuditable u input → IsInOrder input → ¬ Rose u.writing.faults_before u.writing.faults_after → (s ≡ status.Done) ⊎ (s ≡ status.Memory) }
+    ensures complete_fault { (u : Use) (s : Status) (input : List ℕ) (fault : AuditFault)
+        → IsOutcome u s → IsAuditable u input → IsFirstFault input (fault_meant fault) → (s ≡ status.Audit fault) ⊎ (s ≡ status.Memory) }
     ensures complete_bench { (u : Use) (s : Status) (count seed workers : ℕ) (w : Work) (records : List (List Record)) (o : Opening)
         → IsOutcome u s → IsBench u.words count seed workers → MayBeMeasured u count seed w records o → ¬ IsOfLogs s → (s ≡ status.Done) ⊎ (s ≡ status.Memory) }
 {
@@ -51,4 +61,6 @@ pub(crate) fn done_or_no_memory()
     fault_or_work();
     one_list_of_records();
     no_more_records();
+    an_input_in_order_has_no_fault();
+    one_first_fault();
 }

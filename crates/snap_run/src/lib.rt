@@ -1,6 +1,7 @@
 //! The top call: from the words of the command line and the input's bytes to the output's and the trace's bytes and the logs.
 #![tactic(auto)]
 
+mod audits;
 mod crews;
 mod endings;
 mod migrations;

@@ -9,8 +9,7 @@ ghost use Rattle.run_work.specs.Writings.{writing_of};
 ghost use Rattle.snap_run.specs.Recoveries.{recovered_report, IsRecoverAnswer};
 
 use log_opening::recover_kept;
-use run_work::{push_actor, status_of, write_all};
-use snap_base::{ActorId, Bid, Memory, Place, State, Tid};
+use run_work::{ActorId, Bid, Memory, Place, State, Tid, push_actor, status_of, write_all};
 use snap_outside::{LogDev, Sink};
 use snap_recover::{Kept, Opening};
 use snap_report::{Status, kept_line, recovered_line};

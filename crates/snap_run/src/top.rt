@@ -2,15 +2,19 @@
 ghost use Rattle.std.specs.Prelude.{◌≡◌, ◌≢◌, ◌⊎◌, ℕ, List, [], map, string_bytes, vec_len};
 ghost use Rattle.command_words.specs.Words.{IsBench};
 ghost use Rattle.run_work.specs.Runs.{OutStood};
-ghost use Rattle.snap_outside.specs.Causes.{EndsAtFault};
+ghost use Rattle.snap_outside.specs.Causes.{EndsAtFault, Rose};
 ghost use Rattle.snap_recover.specs.declared.openings.Opening.{Opening};
+ghost use Rattle.snap_report.specs.declared.audit_faults.AuditFault.{AuditFault};
 ghost use Rattle.snap_report.specs.declared.statuses.Status.TheVariants as status;
 ghost use Rattle.snap_run.specs.Answers.{IsUntroubled, IsPrintable, MayBeMeasured, GetsNoCall};
+ghost use Rattle.snap_run.specs.Audits.{IsAuditable};
 ghost use Rattle.snap_run.specs.Migrations.{IsMigratable};
 ghost use Rattle.snap_run.specs.Outcomes.{IsOutcome};
 ghost use Rattle.snap_run.specs.Recoveries.{IsRecoverable};
 ghost use Rattle.snap_run.specs.Uses.{Use, use_by};
 ghost use Rattle.snap_work.specs.Works.{Work};
+ghost use Rattle.trace_audit.specs.AuditNos.{fault_meant};
+ghost use Rattle.trace_audit.specs.audit_words.Inputs.{IsFirstFault, IsInOrder};
 ghost use Rattle.record_log.specs.txn_records.declared.records.Record.{Record};
 
 use crate::crews::crew_answer;
@@ -26,7 +30,8 @@ use std::thread::Threads;
 /// Does what the words ask for. `run` reads a work text from `input` and runs it on the machine: with no workers by the schedule
 /// of the seed, and else with so many, each of which takes the events that it comes to and passes the gate before a slice. It
 /// goes on from what the text's logs hold, writes the records of the run there, prints its replies and its end to `out`, and
-/// at last a line of each event to `trace`. The other commands read no input: `recover` prints what the logs recover to, `migrate`
+/// at last a line of each event to `trace`. `audit` reads the papers of a run and says whether they
+/// are in order. The other commands read no input: `recover` prints what the logs recover to, `migrate`
 /// makes those of format 1 ones of format 2, `gen` prints a generated text, and `bench` runs one as `run` runs its input, but
 /// prints the summary of the run alone. Each refusal is a status of the outcome. Without workers it returns; whether it returns with
 /// some is not promised.
@@ -62,6 +67,12 @@ pub fn run<
     // Where the output takes it, a generated text is printed, or there is no memory.
     ensures complete_gen { let u : Use = use_by I.Source D.LogDev O.Sink T.Sink (map string_bytes words.now) input.old input.new logs out trace result in
         IsPrintable u → (result.status ≡ status.Done) ⊎ (result.status ≡ status.Memory) }
+    // Where the papers in the input are in order, and nothing fails, it is said, or there is no memory.
+    ensures complete_audit { let u : Use = use_by I.Source D.LogDev O.Sink T.Sink (map string_bytes words.now) input.old input.new logs out trace result in
+        (text : List ℕ) → IsAuditable u text → IsInOrder text → ¬ Rose u.writing.faults_before u.writing.faults_after → (result.status ≡ status.Done) ⊎ (result.status ≡ status.Memory) }
+    // Where they are not, what is wrong first is told, or there is no memory.
+    ensures complete_fault { let u : Use = use_by I.Source D.LogDev O.Sink T.Sink (map string_bytes words.now) input.old input.new logs out trace result in
+        (text : List ℕ) (fault : AuditFault) → IsAuditable u text → IsFirstFault text (fault_meant fault) → (result.status ≡ status.Audit fault) ⊎ (result.status ≡ status.Memory) }
     // Where nothing stands in the way of a generated text, it is run to its end, or there is no memory.
     ensures complete_bench { let u : Use = use_by I.Source D.LogDev O.Sink T.Sink (map string_bytes words.now) input.old input.new logs out trace result in
         (count seed workers : ℕ) (w : Work) (records : List (List Record)) (o : Opening)

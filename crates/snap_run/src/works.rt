@@ -9,16 +9,17 @@ ghost use Rattle.snap_work.specs.Kept.{KeepsLimits};
 ghost use Rattle.snap_work.specs.Works.{work_of};
 ghost use Rattle.snap_work.specs.declared.limits.TheConstants.{MOST_TRANSACTIONS, LONGEST_WORK};
 ghost use Rattle.work_gen.specs.Generated.{generated_text};
-ghost use Rattle.work_text.specs.Reads.{IsWork};
+ghost use Rattle.work_gen.specs.work_text.Reads.{IsWork};
 
-use run_work::write_all;
-use snap_base::Memory;
+use run_work::{Memory, write_all};
 use snap_outside::{Failed, Sink, Source};
 use snap_report::Status;
 use snap_work::{LONGEST_WORK, Work, WorkNo};
 use std::alloc::Global;
-use work_gen::{generate, generated_texts_are_works};
-use work_text::{a_work_is_short, one_work, parse_work, transactions_may_run};
+use work_gen::{
+    a_work_is_short, generate, generated_texts_are_works, one_work, parse_work,
+    transactions_may_run,
+};
 
 /// The work that the input stands for.
 pub(crate) fn read_work<I: Source>(alloc: Global, input: &mut I) -> Result<Work, Status>
@@ -44,13 +45,13 @@ pub(crate) fn read_work<I: Source>(alloc: Global, input: &mut I) -> Result<Work,
 }
 
 /// Why there is no input.
-enum ReadNo {
+pub(crate) enum ReadNo {
     Fault,
     Memory,
 }
 
-/// Reads a source to its end, or one byte more than a work text may have.
-fn read_input<I: Source>(alloc: Global, input: &mut I) -> Result<Vec<u8>, ReadNo>
+/// Reads a source to its end, or one byte more than an input may have.
+pub(crate) fn read_input<I: Source>(alloc: Global, input: &mut I) -> Result<Vec<u8>, ReadNo>
     ensures moved { IfOk result (λ v. Consumes (I.left input.old) (I.left input.new) v.items) }
     ensures whole { IfOk result (λ v. length v.items ≤ LONGEST_WORK → IsAtEnd (I.left input.new)) }
     ensures most { IfOk result (λ v. length v.items ≤ LONGEST_WORK + 1) }

@@ -1,3 +1,4 @@
+use Rattle.snap_run.proofs.AuditComplete.{audited_in_order, audited_with_fault}
 use Rattle.snap_run.proofs.Complete.{completed, completed_gen, completed_bench}
 use Rattle.snap_run.proofs.RecoverComplete.{RecordLaws, completed_migrate, completed_recover}
 use Rattle.snap_run.proofs.endings.done_or_no_memory.Goals as goal
@@ -18,6 +19,13 @@ returns-clause-complete_migrate c = λ u s kept out may.
 
 pub returns-clause-complete_gen : goal.returns-clause-complete_gen
 returns-clause-complete_gen c = λ u s out may. completed_gen c.one_command.ensures u may s out.answer
+
+pub returns-clause-complete_audit : goal.returns-clause-complete_audit
+returns-clause-complete_audit c = λ u s input out may order quiet. audited_in_order c.one_command.ensures u input may c.an_input_in_order_has_no_fault.ensures order quiet s out.answer
+
+pub returns-clause-complete_fault : goal.returns-clause-complete_fault
+returns-clause-complete_fault c = λ u s input fault out may first.
+    audited_with_fault c.one_command.ensures u input may c.an_input_in_order_has_no_fault.ensures c.one_first_fault.ensures fault first s out.answer
 
 pub returns-clause-complete_bench : goal.returns-clause-complete_bench
 returns-clause-complete_bench c = λ u s count seed workers w records o out bench may not.

@@ -3,7 +3,7 @@ use Rattle.std.proofs.KnownBytes.{Keeps-refl}
 use Rattle.std.specs.Prelude.{string_bytes}
 use Rattle.run_work.specs.Calls.{CallState, call_of}
 use Rattle.run_work.specs.Runs.{OutStood}
-use Rattle.snap_run.proofs.Outcomes.{asked, usage_outcome, recover_outcome, migrate_outcome, gen_outcome, bench_outcome, run_not_gen, run_not_bench, gen_not_bench, same_measure}
+use Rattle.snap_run.proofs.Outcomes.{asked, audit_outcome, usage_outcome, recover_outcome, migrate_outcome, gen_outcome, bench_outcome, run_not_audit, bench_not_audit, run_not_gen, run_not_bench, gen_not_bench, same_measure}
 use Rattle.snap_run.proofs.solo.answer.Goals as goal
 use Rattle.snap_outside.proofs.AtFault.{surely}
 use Rattle.snap_outside.specs.Causes.{EndsAtFault}
@@ -50,6 +50,35 @@ returns-in-Ok-Migrate-clause-outcome g c =
     let after : CallState g.row.D.Denot g.row.T.Denot = call_of g.D.LogDev g.O.Sink g.T.Sink end.new.devices end.new.out call.trace in
     subst (λ (x : CallState g.row.D.Denot g.row.T.Denot). IsOutcome (use_of words reading x after kept) end.result) c.call-in-Ok-Migrate.view_is
     (migrate_outcome c.one_command.ensures (use_of words reading before after kept) end.result (subst (λ (k : Command). IsCommand words k) c.in-Ok-Migrate.field-0-is c.in-Ok-Migrate.ensures) (Keeps-refl _) c.new-in-Ok-Migrate.ensures.items (Keeps-refl _) end.ensures.safe end.ensures.answer)
+
+-- ---- the input is audited
+
+pub returns-in-Ok-Audit-clause-outcome : goal.returns-in-Ok-Audit-clause-outcome
+returns-in-Ok-Audit-clause-outcome g c =
+    let words = map string_bytes c.args.words.now in
+    let call = c.call-in-Ok-Audit.inside in
+    let end = c.print_audit-status in
+    let reading = reading_of g.I.Source c.args.input.now end.new.input in
+    let kept = c.new-in-Ok-Audit.result.items in
+    let before : CallState g.row.D.Denot g.row.T.Denot = call_of g.D.LogDev g.O.Sink g.T.Sink call.logs call.out call.trace in
+    let after : CallState g.row.D.Denot g.row.T.Denot = call_of g.D.LogDev g.O.Sink g.T.Sink call.logs end.new.out call.trace in
+    subst (λ (x : CallState g.row.D.Denot g.row.T.Denot). IsOutcome (use_of words reading x after kept) end.result) c.call-in-Ok-Audit.view_is
+    (audit_outcome c.one_command.ensures (use_of words reading before after kept) end.result (subst (λ (k : Command). IsCommand words k) c.in-Ok-Audit.field-0-is c.in-Ok-Audit.ensures)
+    (record { kept = c.new-in-Ok-Audit.ensures.items; trace = Keeps-refl _; devices = refl }) end.ensures.answer)
+
+pub returns-in-Ok-Audit-clause-out_once : goal.returns-in-Ok-Audit-clause-out_once
+returns-in-Ok-Audit-clause-out_once g c =
+    let end = c.print_audit-status in
+    subst (λ (x : CallState g.row.D.Denot g.row.T.Denot). EndsAtFault (OutStood end.result) x.output.faults x.output.late (g.O.Sink.faults end.new.out) (g.O.Sink.late end.new.out)) c.call-in-Ok-Audit.view_is
+    (surely _ _ _ _ (λ stood. stood.0) end.ensures.out_once)
+
+pub returns-in-Ok-Audit-clause-opens : goal.returns-in-Ok-Audit-clause-opens
+returns-in-Ok-Audit-clause-opens g c = λ text w records o t.
+    absurd (run_not_audit c.one_command.ensures _ t.run.0 t.run.1 t.run.2 (subst (λ (k : Command). IsCommand (map string_bytes c.args.words.now) k) c.in-Ok-Audit.field-0-is c.in-Ok-Audit.ensures))
+
+pub returns-in-Ok-Audit-clause-opens_bench : goal.returns-in-Ok-Audit-clause-opens_bench
+returns-in-Ok-Audit-clause-opens_bench g c = λ count seed workers w records o bench may.
+    absurd (bench_not_audit c.one_command.ensures _ count seed workers bench (subst (λ (k : Command). IsCommand (map string_bytes c.args.words.now) k) c.in-Ok-Audit.field-0-is c.in-Ok-Audit.ensures))
 
 -- ---- a generated text is printed
 

@@ -4,6 +4,8 @@ use Rattle.run_work.specs.Calls.{CallState, call_of}
 use Rattle.snap_run.proofs.Outcomes.{ask_once}
 use Rattle.snap_run.proofs.top.run.Goals as goal
 use Rattle.snap_run.specs.Answers.{IsUntroubled, IsPrintable, MayBeMeasured}
+use Rattle.snap_outside.specs.Causes.{Rose}
+use Rattle.snap_run.specs.Audits.{IsAuditable}
 use Rattle.snap_run.specs.Migrations.{IsMigratable}
 use Rattle.snap_run.specs.Outcomes.{IsOutcome}
 use Rattle.snap_run.specs.Recoveries.{IsRecoverable}
@@ -44,6 +46,23 @@ returns-clause-complete_gen g c = λ may.
     let words = map string_bytes c.args.words.now in
     let reading = reading_of g.I.Source c.args.input.now end.new.input in
     c.done_or_no_memory.ensures.complete_gen _ end.result.status end.ensures.outcome (subst (λ (x : CallState g.row.D.Denot g.row.T.Denot). IsPrintable (use_of words reading before x end.result.kept.items)) c.call.view_is may)
+
+pub returns-clause-complete_audit : goal.returns-clause-complete_audit
+returns-clause-complete_audit g c = λ text may order quiet.
+    let end = c.crew_answer-kept in
+    let before : CallState g.row.D.Denot g.row.T.Denot = call_of g.D.LogDev g.O.Sink g.T.Sink c.args.logs c.args.out c.args.trace in
+    let words = map string_bytes c.args.words.now in
+    let reading = reading_of g.I.Source c.args.input.now end.new.input in
+    c.done_or_no_memory.ensures.complete_audit _ end.result.status text end.ensures.outcome (subst (λ (x : CallState g.row.D.Denot g.row.T.Denot). IsAuditable (use_of words reading before x end.result.kept.items) text) c.call.view_is may) order
+    (subst (λ (x : CallState g.row.D.Denot g.row.T.Denot). ¬ Rose before.output.faults x.output.faults) c.call.view_is quiet)
+
+pub returns-clause-complete_fault : goal.returns-clause-complete_fault
+returns-clause-complete_fault g c = λ text fault may first.
+    let end = c.crew_answer-kept in
+    let before : CallState g.row.D.Denot g.row.T.Denot = call_of g.D.LogDev g.O.Sink g.T.Sink c.args.logs c.args.out c.args.trace in
+    let words = map string_bytes c.args.words.now in
+    let reading = reading_of g.I.Source c.args.input.now end.new.input in
+    c.done_or_no_memory.ensures.complete_fault _ end.result.status text fault end.ensures.outcome (subst (λ (x : CallState g.row.D.Denot g.row.T.Denot). IsAuditable (use_of words reading before x end.result.kept.items) text) c.call.view_is may) first
 
 pub returns-clause-complete_bench : goal.returns-clause-complete_bench
 returns-clause-complete_bench g c = λ count seed workers w records o bench may.

@@ -2,7 +2,7 @@ use Rattle.std.proofs.Common.{ℕ, List, length, ap, ◌∙◌, subst}
 use Rattle.snap_run.proofs.works.generated_work.Goals as goal
 use Rattle.snap_work.specs.Works.{Work, work_of}
 use Rattle.work_gen.specs.Generated.{generated_text}
-use Rattle.work_text.specs.Reads.{IsWork}
+use Rattle.work_gen.specs.work_text.Reads.{IsWork}
 
 pub returns-in-Ok-clause-work : goal.returns-in-Ok-clause-work
 returns-in-Ok-clause-work c =

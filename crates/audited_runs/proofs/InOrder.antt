@@ -1,0 +1,131 @@
+-- From the answer of a call to papers in order.
+use Rattle.std.proofs.Common.{◌≡◌, ℕ, suc, ◌<◌, Bool, List, [], ◌∷◌, ◌++◌, length, Option, Some, IfSome, slice_index_or, refl, sym, ap, ◌∙◌, subst, inl, inr, arith}
+use Rattle.std.proofs.lemmas.List.{append-nil, append_assoc}
+use Rattle.std.specs.Io.KnownBytes.{Appends}
+use Rattle.std.specs.List.{AllByRecursion}
+use Rattle.audit_laws.specs.InOrder.{QuietRunsAreInOrder}
+use Rattle.audit_words.specs.Inputs.{IsInOrder, input_of}
+use Rattle.audit_words.specs.Papers.{AreWhole, ended}
+use Rattle.command_words.specs.CommandLaws.{OneCommand}
+use Rattle.record_log.specs.Records.{HoldsRecords}
+use Rattle.record_log.specs.RecordLogLaws.{OneListOfRecords}
+use Rattle.record_log.specs.snap_outside.Disk.{content}
+use Rattle.record_log.specs.txn_records.declared.records.Record.{Record}
+use Rattle.run_opening.specs.Begins.{AreEmpty, fresh_opening}
+use Rattle.run_opening.specs.Opens.{TellsRecords, records_at}
+use Rattle.run_opening.specs.log_opening.Devices.{Device, device_at}
+use Rattle.run_opening.specs.log_opening.Kept.{DeviceHolds}
+use Rattle.run_opening.specs.snap_recover.declared.openings.Opening.{Opening}
+use Rattle.run_recovery.specs.Runs.{HasEnded, HasRunWork, machine_of, meant}
+use Rattle.run_recovery.specs.Schedules.{Schedule, seeded, free}
+use Rattle.run_work.specs.Runs.{IsWorkAnswer}
+use Rattle.run_work.specs.Writings.{Writing, Writes}
+use Rattle.run_work.specs.core_events.declared.events.Event.{Event}
+use Rattle.run_work.specs.protocol.Events as machine
+use Rattle.run_work.specs.protocol.Runs.{IsRun}
+use Rattle.run_work.specs.run_effects.Lines.{report_text}
+use Rattle.snap_report.specs.declared.statuses.Status.{Status}
+use Rattle.snap_report.specs.declared.statuses.Status.TheVariants as status
+use Rattle.snap_run.proofs.Outcomes.{not_both, run_not_gen, run_not_bench, run_not_migrate, run_not_audit}
+use Rattle.snap_run.specs.Answers.{IsAnswer, ran, recovered, generated, measured, migrated, audited, refused, IsInputAnswer, input_refused, input_memory, input_read_fault, IsRunAnswer, ran_of, schedule_asked}
+use Rattle.snap_run.specs.Uses.{Reading, Use}
+use Rattle.snap_work.specs.Works.{Work}
+use Rattle.trace_text.specs.Lines.{IsEvent, event_line}
+use Rattle.trace_text.specs.Traces.{IsTrace, trace_of}
+use Rattle.work_text.specs.Reads.{IsWork}
+use Rattle.audited_runs.specs.FirstRuns.{HasTaken, HoldNothing, IsFirstRun}
+
+-- ---- the bytes
+
+-- what an empty sink has taken is what was written
+taken_is : (out : Writing) (taken bytes : List ℕ) → HasTaken out taken → Writes out bytes → taken ≡ bytes
+taken_is out taken bytes has writes =
+    subst (λ (o : Option (List ℕ)). Appends o (Some taken) bytes) has.0 (subst (λ (o : Option (List ℕ)). Appends out.taken_before o bytes) has.1 writes)
+
+-- a line in front of whole lines
+onto_whole : (line rest : List ℕ) → AreWhole rest → AreWhole (ended line ++ rest)
+onto_whole line rest (inl e) = inr (line, subst (λ (z : List ℕ). ended line ++ z ≡ ended line) (sym e) (append-nil (ended line)))
+onto_whole line rest (inr w) = inr (ended line ++ w.0, subst (λ (z : List ℕ). ended line ++ z ≡ ended (ended line ++ w.0)) (sym w.1) (sym (append_assoc (ended line) w.0 (10 ∷ []))))
+
+whole_trace : (es : List Event) → AreWhole (trace_of es)
+whole_trace [] = inl refl
+whole_trace (e ∷ es) = onto_whole (event_line e) (trace_of es) (whole_trace es)
+
+-- ---- the opening
+
+-- what the law one_work of work_text says
+abbrev pub OneWork : Type 0
+OneWork = (text : List ℕ) (v w : Work) → IsWork text v → IsWork text w → v ≡ w
+
+-- what the law seeds_pick_runs of run_recovery says of a run
+abbrev pub SeedsPickRuns : Type 0
+SeedsPickRuns =
+    (w : Work) (seed : ℕ) (o : Opening) (es : List machine.Event) (failed : ℕ → Bool) (before after : List Device)
+    → HasRunWork w (seeded seed) o es failed before after → HasRunWork w free o es failed before after
+
+-- what the law printed_traces of trace_text says
+abbrev pub PrintedTraces : Type 0
+PrintedTraces = (es : List Event) → AllByRecursion IsEvent es → IsTrace (trace_of es) es
+
+-- a device that tells of no record holds none
+none_held : OneListOfRecords → (d : Device) (rs : List Record) → TellsRecords d [] → DeviceHolds d rs → rs ≡ []
+none_held one d rs tells holds = one (content tells.0) rs [] (subst (λ o. IfSome o (λ h. HoldsRecords (content h) rs)) tells.1 holds) tells.2
+
+all_empty : (logs : List (List Record)) → ((l : ℕ) → l < length logs → slice_index_or logs l [] ≡ []) → AreEmpty logs
+all_empty [] h = tt
+all_empty (rs ∷ logs) h = (h 0 (omega arith), all_empty logs (λ l lt. h (suc l) (omega (arith, lt))))
+
+-- a run on logs that hold nothing begins with the work's states
+opens_fresh : OneListOfRecords → (w : Work) (schedule : Schedule) (o : Opening) (es : List machine.Event) (failed : ℕ → Bool) (before after : List Device)
+    → HoldNothing w before → HasRunWork w schedule o es failed before after → o ≡ fresh_opening w.states
+opens_fresh one w schedule o es failed before after nothing run = elim run.devices.start [
+  | inl begun ↦ begun.1
+  | inr goes ↦ absurd (goes.0.some (all_empty run.devices.records (λ l lt.
+      let below : l < w.logs = omega (arith, lt, run.devices.as_many) in
+      none_held one (device_at before l) (records_at run.devices.records l) (nothing l below) (run.devices.each l below).held)))
+]
+
+-- by any schedule its events are a run of the machine
+is_run : SeedsPickRuns → (w : Work) (schedule : Schedule) (o : Opening) (es : List machine.Event) (failed : ℕ → Bool) (before after : List Device) → HasRunWork w schedule o es failed before after
+    → IsRun (machine_of w o) es
+is_run seeds w (seeded seed) o es failed before after run = (seeds w seed o es failed before after run).front
+is_run seeds w free o es failed before after run = run.front
+
+-- ---- the answer
+
+-- reading and parsing never answer that all is done
+not_done : (r : Reading) (s : Status) → s ≡ status.Done → IsInputAnswer r s → ⊥
+not_done r s e (input_refused line cause enough fault) = cc
+not_done r s e input_memory = cc
+not_done r s e (input_read_fault rose) = cc
+
+module _ (one : OneCommand) (once : OneWork) (records : OneListOfRecords) (seeds : SeedsPickRuns) (prints : PrintedTraces) (w : Work) (quiet : QuietRunsAreInOrder w)
+    (u : Use) (text trace report : List ℕ) (first : IsFirstRun w u text trace report)
+  where
+    of_answer : (schedule : Schedule) → IsWorkAnswer (ran_of u w schedule) status.Done → IsInOrder (input_of text trace report)
+    of_answer schedule a =
+        let es = meant u.kept in
+        let o : Opening = a.0.0 in
+        let fresh : o ≡ fresh_opening w.states = opens_fresh records w schedule o es _ u.devices_before u.devices_after first.empty a.0.1 in
+        let taken : IsRun (machine_of w o) es = is_run seeds w schedule o es _ u.devices_before u.devices_after a.0.1 in
+        let printed : report ≡ report_text (machine_of w o) es = taken_is u.writing report (report_text (machine_of w o) es) first.printed a.0.3.1 in
+        let traced : trace ≡ trace_of u.kept = taken_is u.tracing trace (trace_of u.kept) first.traced a.1 in
+        let begun : IsInOrder (input_of text trace (report_text (machine_of w (fresh_opening w.states)) es)) =
+        quiet text trace u.kept first.is_work first.whole (subst (λ (t : List ℕ). IsTrace t u.kept) (sym traced) (prints u.kept first.events)) (subst (λ (t : List ℕ). AreWhole t) (sym traced) (whole_trace u.kept))
+        (subst (λ (x : Opening). IsRun (machine_of w x) es) fresh taken) (subst (λ (x : Opening). HasEnded w x es) fresh a.0.3.0.0) in
+        subst (λ (t : List ℕ). IsInOrder (input_of text trace t)) (sym (printed ∙ ap (λ (x : Opening). report_text (machine_of w x) es) fresh)) begun
+
+    of_run : (schedule : Schedule) → IsRunAnswer u schedule status.Done → IsInOrder (input_of text trace report)
+    of_run schedule (inl a) = absurd (not_done u.reading status.Done refl a.0)
+    of_run schedule (inr a) =
+        let known = subst (λ (left : Option (List ℕ)). IfSome left (λ input. (v : Work) × IsWork input v × IsWorkAnswer (ran_of u v schedule) status.Done)) first.known a.1 in
+        of_answer schedule (subst (λ (v : Work). IsWorkAnswer (ran_of u v schedule) status.Done) (once text known.0 w known.1 first.is_work) known.2)
+
+    pub in_order : IsAnswer u status.Done → IsInOrder (input_of text trace report)
+    in_order (ran n seed run a) = of_run (schedule_asked n seed) a
+    in_order (recovered recover _ _ _ _) = absurd (not_both one u.words first.run.0 first.run.1 first.run.2 recover)
+    in_order (generated count seed gen _ _ _) = absurd (run_not_gen one u.words first.run.0 first.run.1 count seed first.run.2 gen)
+    in_order (measured count seed n bench _ _) = absurd (run_not_bench one u.words first.run.0 first.run.1 count seed n first.run.2 bench)
+    in_order (migrated migrate _ _ _ _) = absurd (run_not_migrate one u.words first.run.0 first.run.1 first.run.2 migrate)
+    in_order (audited audit _ _) = absurd (run_not_audit one u.words first.run.0 first.run.1 first.run.2 audit)
+    in_order (refused place is _ _ _) = let e : status.Done ≡ status.Usage place = is in cc
