@@ -32,7 +32,7 @@ use Rattle.audit_words.specs.Happenings.{seen}
 use Rattle.audit_words.specs.Papers.{Actor, End, IsWellFormedLine, Kept, Line, Recovered, Reply}
 use Rattle.audit_words.specs.Seen.{Seen}
 use Rattle.audit_laws.specs.Fits.{AreInRange}
-use Rattle.audit_laws.specs.Programs.{language_of_methods}
+use Rattle.audit_words.specs.Inputs.{language_of_methods}
 use Rattle.audit_laws.proofs.LanguageFits.{AloneFits, AreStates, IsResult, alone_fits}
 use Rattle.audit_laws.proofs.LinesTell.{all_lines, whatever_before}
 

@@ -133,9 +133,6 @@ stage_is : (p q : Batch → Bool) (o : Option Batch) → ((b : Batch) → p b �
 stage_is p q None k h = refl
 stage_is p q (Some b) k h = k b h
 
-abbrev is_set : Batch → Bool
-is_set b = is_settled b.stage
-
 -- by numbers and stages alone
 same_stages : (k : ℕ) (bs cs : List Batch) → map (λ b. b.bid) bs ≡ map (λ b. b.bid) cs → map (λ b. b.stage) bs ≡ map (λ b. b.stage) cs → holds (λ b. is_settled b.stage) (batch_of k bs) ≡ holds (λ b. is_settled b.stage) (batch_of k cs)
 same_stages k [] [] e f = refl

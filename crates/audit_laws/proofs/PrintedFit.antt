@@ -21,7 +21,7 @@ use Rattle.audit_words.specs.Happenings.{seen}
 use Rattle.audit_words.specs.Papers.{End, IsWellFormedLine}
 use Rattle.audit_words.specs.Reports.{actor_lines, reply_line_of, reply_lines, report_lines}
 use Rattle.audit_laws.specs.Fits.{AreInRange, VerdictsAreInRange}
-use Rattle.audit_laws.specs.Programs.{language_of_methods}
+use Rattle.audit_words.specs.Inputs.{language_of_methods}
 use Rattle.audit_laws.proofs.LinesFit.{ReplyInRange, arguments_fit, lines_fit}
 
 -- no more batches settle than there are events

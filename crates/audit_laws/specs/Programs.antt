@@ -1,8 +1,6 @@
 -- The papers of the runs of a program's texts, by what the language means.
 use Rattle.std.specs.Prelude.{List}
 use Rattle.snap_base.specs.declared.transactions.State.{State}
-use Rattle.aml_slice.specs.aml_check.Meaning.{alone}
-use Rattle.aml_slice.specs.aml_check.Names.{method_at}
 use Rattle.aml_slice.specs.Controls.{Rest}
 use Rattle.aml_slice.specs.aml_tree.Tree.{CheckedMethod}
 use Rattle.protocol.specs.Events.{Event}
@@ -10,12 +8,8 @@ use Rattle.protocol.specs.Facts.{Alone}
 use Rattle.protocol.specs.Fixed.{Fixed}
 use Rattle.protocol.specs.Runs.{IsQuiet, reached}
 use Rattle.audit_words.specs.Audited.{Audited}
-use Rattle.audit_words.specs.Clauses.{Language}
+use Rattle.audit_words.specs.Inputs.{language_of_methods}
 use Rattle.audit_words.specs.Reports.{report_lines}
-
--- what the program's methods mean, and whether a transaction's method only reads
-abbrev pub language_of_methods : List CheckedMethod → Language
-language_of_methods p = record { meaning = λ world tx. alone p world tx; reads = λ tx. (method_at p tx.method).is_read }
 
 -- The papers of a run that can't go on are in order by the language.
 abbrev pub IsAuditedAsMeant : List CheckedMethod → Fixed Rest → (Rest → List State → Alone) → List Event → Type 0

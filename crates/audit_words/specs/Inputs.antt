@@ -2,6 +2,7 @@
 use Rattle.std.specs.Prelude.{◌≡◌, ℕ, List, ◌++◌, map}
 use Rattle.aml_check.specs.Meaning.{alone}
 use Rattle.aml_check.specs.Names.{method_at}
+use Rattle.aml_tree.specs.Tree.{CheckedMethod}
 use Rattle.snap_work.specs.Works.{Work}
 use Rattle.snap_work.specs.declared.faults.WorkFault.{WorkFault}
 use Rattle.work_text.specs.Reads.{IsWork, IsFirstWorkFault}
@@ -28,9 +29,13 @@ first_text w = record {
   opening = record { states = w.states; next_tid = 1; next_bid = 1; next_c = 1 };
 }
 
--- what its program's methods mean, and whether a transaction's method only reads
+-- what a program's methods mean, and whether a transaction's method only reads
+abbrev pub language_of_methods : List CheckedMethod → Language
+language_of_methods p = record { meaning = λ world tx. alone p world tx; reads = λ tx. (method_at p tx.method).is_read }
+
+-- that of a work's program
 abbrev pub language : Work → Language
-language w = record { meaning = λ world tx. alone w.program world tx; reads = λ tx. (method_at w.program tx.method).is_read }
+language w = language_of_methods w.program
 
 -- ---- an input in order
 

@@ -1,30 +1,19 @@
 -- A batch that was aborted fails with a transaction exactly where a serial run of what counts finds it.
-use Rattle.std.specs.Prelude.{◌≡◌, ℕ, ◌==◌, ◌&&◌, Bool, true, false, if◌then◌else◌, MatchBool, Option, Some, None, List, ◌∷◌, filter, map}
+use Rattle.std.specs.Prelude.{◌≡◌, ℕ, ◌==◌, ◌&&◌, Bool, true, false, MatchBool, Option, Some, None, List, filter}
 use Rattle.std.specs.List.{list_any}
 use Rattle.std.proofs.Common.{sym, ap, ◌∙◌}
 use Rattle.std.proofs.lemmas.Bool.{true≢false}
 use Rattle.snap_base.proofs.Options.{none_is_some, same_some}
-use Rattle.snap_base.specs.declared.transactions.State.{State}
-use Rattle.protocol.specs.Fixed.{Text, tx_at}
-use Rattle.protocol.specs.History.{Done}
+use Rattle.protocol.specs.Fixed.{Text}
 use Rattle.protocol.specs.OnRing.{Formed}
-use Rattle.protocol.specs.Chains.{counts}
-use Rattle.audit_words.specs.Clauses.{FailsItsBatch, Meaning, serial, world_left_below}
+use Rattle.audit_words.specs.Clauses.{FailsItsBatch, Meaning, world_left_below}
 use Rattle.audit_words.specs.Papers.{Line}
 use Rattle.audit_words.specs.Seen.{Cut, Seen, batch_in}
 use Rattle.audit_tale.specs.Stands.{cuts_from}
 use Rattle.audit_tale.specs.declared.told.Fall.{Fall}
-use Rattle.trace_audit.specs.Failures.{counted_world, first_fails}
+use Rattle.trace_audit.specs.Failures.{first_fails}
 use Rattle.trace_audit.proofs.Evidences.{any_filtered, decides}
 use Rattle.trace_audit.proofs.FirstFailures.{fails_among, first_among}
-
--- ---- what counts, one by one
-
-pub counted_next : (m : Meaning) (w : Text) (k c : ℕ) (world : List State) (d : Done) (ds : List Done) → counts k c d ≡ true → counted_world m w k c world (d ∷ ds) ≡ counted_world m w k c (m world (tx_at w d.tx)).world ds
-counted_next m w k c world d ds e = ap (λ (b : Bool). (serial m world (map (λ x. tx_at w x.tx) (if b then d ∷ filter (counts k c) ds else filter (counts k c) ds))).world) e
-
-pub uncounted_next : (m : Meaning) (w : Text) (k c : ℕ) (world : List State) (d : Done) (ds : List Done) → counts k c d ≡ false → counted_world m w k c world (d ∷ ds) ≡ counted_world m w k c world ds
-uncounted_next m w k c world d ds e = ap (λ (b : Bool). (serial m world (map (λ x. tx_at w x.tx) (if b then d ∷ filter (counts k c) ds else filter (counts k c) ds))).world) e
 
 -- ---- the batch
 

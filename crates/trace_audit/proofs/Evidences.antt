@@ -2,7 +2,7 @@
 use Rattle.std.specs.Prelude.{◌≡◌, refl, ℕ, zero, suc, ◌+◌, ◌<◌, ◌≤◌, ◌==◌, nat_le, ◌&&◌, ◌||◌, ◌⊎◌, Bool, true, false, if◌then◌else◌, MatchBool, Option, Some, None, option_map, List, [], ◌∷◌, find, filter, length, map, slice_get, slice_index_or}
 use Rattle.std.specs.List.{AllByRecursion, list_any}
 use Rattle.std.proofs.Common.{arith, sym, ap, subst, inl, inr, ◌∙◌}
-use Rattle.std.proofs.lemmas.Bool.{MatchBool-at_true, true≢false, eqb-true, ne_eqb}
+use Rattle.std.proofs.lemmas.Bool.{true≢false, eqb-true, ne_eqb}
 use Rattle.snap_base.proofs.Lists.{all_found, weaker}
 use Rattle.snap_base.proofs.Options.{none_is_some, same_some, some_mapped}
 use Rattle.snap_base.specs.declared.ids.Bid.{Bid}
@@ -161,13 +161,6 @@ taken_is w told s n k bid o b h e f r = by (some_mapped (λ (b : BatchTale). b.f
 
 told_so : (ls : List Line) (codes : List (Option Bid)) (n k : ℕ) (b : Bool) → TellsCodes ls codes → b ≡ is_noted k (slice_get codes n) → b ≡ list_any (tells_batch_code n k) ls
 told_so ls codes n k b h e = e ∙ sym (h n k)
-
-pub not_along : (s : Seen) (ls : List Line) (codes : List (Option Bid)) (n k by : ℕ) (b : Bool) → TellsCodes ls codes → b ≡ is_noted k (slice_get codes by) → b ≡ false → ¬ IsTakenAlong s ls n k by
-not_along s ls codes n k by b h e f g = true≢false (sym g.told ∙ (sym (told_so ls codes by k b h e) ∙ f))
-
-pub along_as_pact : (s : Seen) (ls : List Line) (codes : List (Option Bid)) (n k by : ℕ) (b c : Bool) → TellsCodes ls codes → b ≡ is_noted k (slice_get codes by) → b ≡ true → ¬ (n ≡ by) → c ≡ true → MatchBool c (IsTakenPact s n k) (¬ IsTakenPact s n k)
-    → IsTakenAlong s ls n k by
-along_as_pact s ls codes n k by b c h e t other q m = record { told = sym (told_so ls codes by k b h e) ∙ t; taken = inl (MatchBool-at_true _ _ q m, other) }
 
 pub along_as_act : (s : Seen) (ls : List Line) (codes : List (Option Bid)) (n k by : ℕ) (b r : Bool) → TellsCodes ls codes → b ≡ is_noted k (slice_get codes by) → b ≡ true → ((n ≡ by) ⊎ (¬ IsTakenPact s n k)) → MatchBool r (IsGivenUpFor s n (Taken k)) (¬ IsGivenUpFor s n (Taken k))
     → MatchBool r (IsTakenAlong s ls n k by) (¬ IsTakenAlong s ls n k by)

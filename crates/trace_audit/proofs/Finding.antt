@@ -1,5 +1,5 @@
 -- What is noted by the number of a transaction, one element more.
-use Rattle.std.specs.Prelude.{◌≡◌, refl, ℕ, zero, suc, ◌+◌, ◌<◌, ◌≤◌, ◌==◌, ◌&&◌, ◌||◌, Bool, true, false, if◌then◌else◌, Option, Some, None, List, [], ◌∷◌, ◌++◌, find, length, replicate, slice_get, slice_set, take, drop, slice_index_or}
+use Rattle.std.specs.Prelude.{◌≡◌, refl, ℕ, zero, suc, ◌+◌, ◌<◌, ◌≤◌, ◌==◌, ◌&&◌, ◌||◌, Bool, true, false, if◌then◌else◌, Option, Some, None, List, [], ◌∷◌, ◌++◌, find, length, slice_get, slice_set, take, drop, slice_index_or}
 use Rattle.std.specs.List.{list_any}
 use Rattle.std.specs.Option.{option_or}
 use Rattle.std.proofs.Common.{arith, sym, ap, subst, ◌∙◌}
@@ -8,7 +8,7 @@ use Rattle.std.proofs.lemmas.List.{append-nil, append_assoc, length-append, leng
 use Rattle.std.proofs.lemmas.List.Folds.{find-append, list_any-append}
 use Rattle.std.proofs.lemmas.Option.{slice_get-get_or}
 use Rattle.snap_base.proofs.Booleans.{or_false}
-use Rattle.snap_base.proofs.Lists.{get_behind, get_left, get_other, one_at, set_outside}
+use Rattle.snap_base.proofs.Lists.{get_behind, get_left, get_other, one_at}
 use Rattle.snap_base.specs.declared.ids.Bid.{Bid}
 use Rattle.snap_base.specs.declared.verdicts.Verdict.{Verdict}
 use Rattle.snap_base.specs.declared.verdicts.Verdict.TheVariants as verdicts
@@ -41,9 +41,6 @@ get_set_none : {X : Type 0} (xs : List X) (n : ℕ) (x : X) → slice_get xs n �
 get_set_none [] n x e = refl
 get_set_none (z ∷ xs) zero x e = absurd (cc e)
 get_set_none (z ∷ xs) (suc n) x e = get_set_none xs n x e
-
-pub noted_past : (n at : ℕ) (ps : List (Option ℕ)) → length ps ≤ n → ps ≡ noted n at ps
-noted_past n at ps l = sym (set_outside ps n (first_noted at (slice_get ps n)) l)
 
 pub noted_new : (n at : ℕ) (ps : List (Option ℕ)) → slice_get ps n ≡ Some None → slice_set ps n (Some at) ≡ noted n at ps
 noted_new n at ps e = ap (λ (o : Option (Option ℕ)). slice_set ps n (first_noted at o)) (sym e)
@@ -121,14 +118,6 @@ index_on names xs x old new h f m n e = by (slice_get old m) refl (sym (f m) ∙
     by : (o : Option (Option ℕ)) → slice_get old m ≡ o → with_first (names m x) (length xs) o ≡ Some n → PointsTo (names m) (xs ++ x ∷ []) n
     by None g q = absurd (cc q)
     by (Some o) g q = points_on (names m) xs x o n (names m x) refl (h m o g) q
-
-get_unplaced : {X : Type 0} (n m : ℕ) (o : Option X) → slice_get (replicate n None) m ≡ Some o → o ≡ None
-get_unplaced zero m o e = absurd (cc e)
-get_unplaced (suc n) zero o e = sym (let same : None ≡ o = cc e in same)
-get_unplaced (suc n) (suc m) o e = get_unplaced n m o e
-
-pub nothing_indexed : {X : Type 0} (names : ℕ → X → Bool) (n : ℕ) → IsIndex names [] (replicate n None)
-nothing_indexed names n m o e = subst (PointsTo (names m) []) (sym (get_unplaced n m o e)) refl
 
 pub act_indexed : (xs : List ActTale) (i : ℕ) (d : ActTale) (old new : List (Option ℕ)) → i < length xs → IsIndex is_act_for (take i xs) old → new ≡ noted (slice_index_or xs i d).tx.0 i old → IsIndex is_act_for (take (i + 1) xs) new
 act_indexed xs i d old new l h e =
@@ -241,16 +230,6 @@ code_next txs ls i d old new l is answers many h e =
       subst (λ (z : List Line). TellsCodes z new) (sym (map_taken line_of ls i d l))
           (subst (TellsCodes (lines_of (take i ls) ++ line_of (slice_index_or ls i d) ∷ [])) (sym q) (code_on txs (lines_of (take i ls)) (line_of (slice_index_or ls i d)) old many (each_there (IsNewReply txs) ls i d l answers) h)),
     )
-
-pub all_codes : (ls : List code.ReportLine) (i : ℕ) (codes : List (Option Bid)) → length ls ≤ i → TellsCodes (lines_of (take i ls)) codes → TellsCodes (lines_of ls) codes
-all_codes ls i codes l h = subst (λ (z : List code.ReportLine). TellsCodes (lines_of z) codes) (take_all i ls l) h
-
-pub nothing_noted : (n : ℕ) → TellsCodes [] (replicate n None)
-nothing_noted n m k = by (slice_get (replicate n None) m) refl
-  where
-    by : (o : Option (Option Bid)) → slice_get (replicate n None) m ≡ o → false ≡ is_noted k o
-    by None e = refl
-    by (Some o) e = ap (λ (z : Option Bid). is_noted k (Some z)) (sym (get_unplaced n m o e))
 
 -- a report of the shape that is asked for answers each transaction once
 answers_on : (txs actors settled : ℕ) (front ls : List Line) → EachLine (MayFollow txs actors settled) front ls → EachLine (IsNewReply txs) front ls

@@ -1,9 +1,8 @@
 -- The tests on the members that are kept tell the places of `audit_words`.
-use Rattle.std.specs.Prelude.{◌≡◌, refl, ℕ, ◌≤◌, ◌==◌, nat_lt, nat_le, Bool, true, false, ◌&&◌, ◌||◌, if◌then◌else◌, MatchBool, Option, Some, None, List, [], ◌∷◌, ◌++◌, map}
+use Rattle.std.specs.Prelude.{◌≡◌, refl, ℕ, ◌≤◌, ◌==◌, nat_lt, nat_le, Bool, true, false, ◌&&◌, if◌then◌else◌, MatchBool, Option, Some, None, List, [], ◌∷◌, ◌++◌, map}
 use Rattle.std.specs.List.{AllByRecursion}
 use Rattle.std.proofs.Common.{arith, sym, ap, subst, inl, inr, ◌∙◌}
 use Rattle.std.proofs.lemmas.Bool.{and_from, and_parts, eqb-true, eq-eqb, leb-true, le-leb, ltb-true, ltb-false, or_cases, or_left, or_right}
-use Rattle.snap_base.proofs.Booleans.{or_assoc, or_false}
 use Rattle.snap_base.proofs.Lists.{all_of}
 use Rattle.snap_base.specs.declared.ids.Bid.{Bid}
 use Rattle.snap_base.specs.declared.transactions.Who as whose
@@ -18,8 +17,7 @@ use Rattle.audit_words.specs.Papers.{Line, Reply}
 use Rattle.audit_words.specs.Seen.{Member, Seen}
 use Rattle.audit_tale.specs.Knows.{member_of}
 use Rattle.audit_tale.specs.declared.tales.MemberTale.{MemberTale}
-use Rattle.trace_audit.specs.Grouped.{gained}
-use Rattle.trace_audit.specs.Placed.{is_least, is_place, is_placed, lesser, least_batch, line_placed, stands_at, verdict_placed}
+use Rattle.trace_audit.specs.Placed.{is_least, is_place, is_placed, lesser, least_batch, line_placed, verdict_placed}
 
 -- ---- one place
 
@@ -76,9 +74,6 @@ order_in (Batch k) (m ∷ ms) h = by m.who h.0 (order_in (Batch k) ms h.1)
     by (Batch j) e f = both_lesser k j (least_batch ms) e f
 
 -- ---- who has which place
-
-stands_here : ℕ → Place → MemberTale → List MemberTale → Bool
-stands_here n p m ms = is_least m.who (least_batch ms) && ((n == m.tx.0) && is_place m.place p)
 
 further : (n : ℕ) (p : Place) (m : Member) (ms : List Member) → IsPlacedAt n p ms → IsPlacedAt n p (m ∷ ms)
 further n p m ms h = record {
@@ -152,16 +147,3 @@ line_decides s ms e front (Reply n v) = by v
         (λ h. and_from (p.side == 1) (is_placed n p ms) (eq-eqb p.side 1 h.0) ((placed_at s ms e n p).1 h.1))
     by _ = tt
 line_decides s ms e front _ = tt
-
--- ---- the groups
-
-pub stands_more : (p : Place) (xs ys : List MemberTale) → stands_at p (xs ++ ys) ≡ (stands_at p xs || stands_at p ys)
-stands_more p [] ys = refl
-stands_more p (x ∷ xs) ys = ap (λ (b : Bool). is_place x.place p || b) (stands_more p xs ys) ∙ or_assoc (is_place x.place p) (stands_at p xs) (stands_at p ys)
-
-pub stands_gained : (p : Place) (n k : ℕ) (m : MemberTale) → stands_at p (gained n k m) ≡ ((k == n) && is_place m.place p)
-stands_gained p n k m = by (k == n)
-  where
-    by : (b : Bool) → stands_at p (if b then m ∷ [] else []) ≡ (b && is_place m.place p)
-    by true = or_false (is_place m.place p)
-    by false = refl

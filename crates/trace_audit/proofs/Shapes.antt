@@ -1,8 +1,8 @@
 -- What one more line makes of what was counted, and of the shape so far.
-use Rattle.std.specs.Prelude.{◌≡◌, refl, ℕ, ℤ, zero, suc, ◌+◌, ◌<◌, ◌≤◌, ◌==◌, not, Bool, true, false, ◌||◌, if◌then◌else◌, Some, MatchBool, List, [], ◌∷◌, ◌++◌, length, filter, replicate, take, drop, slice_get, slice_set, slice_index_or}
-use Rattle.std.proofs.Common.{arith, sym, ap, subst, inl, inr, ◌∙◌}
+use Rattle.std.specs.Prelude.{◌≡◌, refl, ℕ, ℤ, zero, suc, ◌+◌, ◌<◌, ◌≤◌, ◌==◌, not, Bool, true, false, ◌||◌, if◌then◌else◌, Some, MatchBool, List, [], ◌∷◌, ◌++◌, length, filter, replicate, take, slice_get, slice_set, slice_index_or}
+use Rattle.std.proofs.Common.{arith, sym, ap, subst, ◌∙◌}
 use Rattle.std.proofs.lemmas.Bool.{true≢false, eqb-true, eq-eqb}
-use Rattle.std.proofs.lemmas.List.{append-nil, append_assoc, length-map, length-replicate, length-set, length-take-le, take_all}
+use Rattle.std.proofs.lemmas.List.{length-map, length-replicate, length-set}
 use Rattle.snap_base.proofs.Booleans.{or_false, or_true}
 use Rattle.snap_base.proofs.Lists.{get_other}
 use Rattle.snap_base.proofs.Options.{same_some}
@@ -11,11 +11,12 @@ use Rattle.protocol.specs.Words.{count}
 use Rattle.protocol.specs.Report.{is_committed}
 use Rattle.audit_words.specs.Papers.{Line, Reply, Actor, End, Kept, Recovered}
 use Rattle.audit_words.specs.Clauses.{MayFollow, is_answered, tells_commit, tells_other}
-use Rattle.audit_words.specs.Audited.{EachLine, HasShape, IsShapeOff}
+use Rattle.audit_words.specs.Audited.{EachLine, HasShape}
 use Rattle.audit_papers.specs.declared.report_line.ReportLine as code
 use Rattle.audit_papers.specs.ReportLines.{line_of, lines_of}
 use Rattle.trace_audit.specs.Counted.{Counted}
-use Rattle.audit_words.proofs.Taken.{map_cut, map_taken}
+use Rattle.audit_words.proofs.Taken.{map_taken}
+use Rattle.trace_audit.proofs.EachLines.{all_the_lines}
 
 answered_join : (n : ℕ) (front ls : List Line) → is_answered n (front ++ ls) ≡ (is_answered n front || is_answered n ls)
 answered_join n [] ls = refl
@@ -102,34 +103,8 @@ nothing_counted txs = record { many = length-replicate txs false; marks = λ m h
 
 -- ---- lines
 
-each_more : (P : List Line → Line → Type 0) (front ls : List Line) (l : Line) → EachLine P front ls → P (front ++ ls) l → EachLine P front (ls ++ l ∷ [])
-each_more P front [] l h k = (subst (λ (z : List Line). P z l) (append-nil front) k, tt)
-each_more P front (x ∷ ls) l h k = (h.0, each_more P (front ++ x ∷ []) ls l h.1 (subst (λ (z : List Line). P z l) (sym (append_assoc front (x ∷ []) ls)) k))
-
-pub lines_long : (ls : List code.ReportLine) (i : ℕ) → i ≤ length ls → length (lines_of (take i ls)) ≡ i
-lines_long ls i h = length-map (take i ls) line_of ∙ length-take-le i ls h
-
-pub each_next : (txs actors settled : ℕ) (ls : List code.ReportLine) (i : ℕ) (d : code.ReportLine) → i < length ls → EachLine (MayFollow txs actors settled) [] (lines_of (take i ls))
-    → MayFollow txs actors settled (lines_of (take i ls)) (line_of (slice_index_or ls i d)) → EachLine (MayFollow txs actors settled) [] (lines_of (take (i + 1) ls))
-each_next txs actors settled ls i d l h k = subst (EachLine (MayFollow txs actors settled) []) (sym (map_taken line_of ls i d l)) (each_more (MayFollow txs actors settled) [] (lines_of (take i ls)) (line_of (slice_index_or ls i d)) h k)
-
 pub counted_next : (txs : ℕ) (ls : List code.ReportLine) (i : ℕ) (d : code.ReportLine) (answered : List Bool) (x y : ℕ) → i < length ls → Counted txs (lines_of (take i ls) ++ line_of (slice_index_or ls i d) ∷ []) answered x y → Counted txs (lines_of (take (i + 1) ls)) answered x y
 counted_next txs ls i d answered x y l k = subst (λ (z : List Line). Counted txs z answered x y) (sym (map_taken line_of ls i d l)) k
-
-pub off_there : (txs actors settled : ℕ) (ls : List code.ReportLine) (i : ℕ) (d : code.ReportLine) → i < length ls → EachLine (MayFollow txs actors settled) [] (lines_of (take i ls))
-    → (¬ MayFollow txs actors settled (lines_of (take i ls)) (line_of (slice_index_or ls i d))) → IsShapeOff txs actors settled (lines_of ls) (i + 1)
-off_there txs actors settled ls i d l h k = inl (record {
-  front = lines_of (take i ls);
-  line = line_of (slice_index_or ls i d);
-  rest = lines_of (drop (i + 1) ls);
-  splits = map_cut line_of ls i d l;
-  number = omega (arith, lines_long ls i (omega arith));
-  before = h;
-  off = k;
-})
-
-pub all_each : (txs actors settled i : ℕ) (ls : List code.ReportLine) → length ls ≤ i → EachLine (MayFollow txs actors settled) [] (lines_of (take i ls)) → EachLine (MayFollow txs actors settled) [] (lines_of ls)
-all_each txs actors settled i ls l h = subst (λ (z : List code.ReportLine). EachLine (MayFollow txs actors settled) [] (lines_of z)) (take_all i ls l) h
 
 -- a report whose lines may all stand is no longer than it may be
 place_of : (txs actors settled : ℕ) (front : List Line) (l : Line) → MayFollow txs actors settled front l → length front < txs + actors + 1
@@ -149,11 +124,8 @@ fits txs actors settled front (x ∷ ls) l h = omega (arith, more front, fits tx
 
 pub has_shape : (txs actors settled i : ℕ) (ls : List code.ReportLine) → length ls ≤ i → txs + actors + 1 ≤ length ls → EachLine (MayFollow txs actors settled) [] (lines_of (take i ls)) → HasShape txs actors settled (lines_of ls)
 has_shape txs actors settled i ls l m h =
-    let each = all_each txs actors settled i ls l h in
+    let each = all_the_lines (MayFollow txs actors settled) ls i l h in
     record { each = each; whole = omega (arith, length-map ls line_of, m, fits txs actors settled [] (lines_of ls) (omega arith) each) }
-
-pub cut_off : (txs actors settled i : ℕ) (ls : List code.ReportLine) → length ls ≤ i → length ls < txs + actors + 1 → EachLine (MayFollow txs actors settled) [] (lines_of (take i ls)) → IsShapeOff txs actors settled (lines_of ls) (length ls + 1)
-cut_off txs actors settled i ls l m h = inr (all_each txs actors settled i ls l h, omega (arith, length-map ls line_of, m), omega (arith, length-map ls line_of))
 
 pub match_map : (b : Bool) (P Q R S : Type 0) → (P → R) → (Q → S) → MatchBool b P Q → MatchBool b R S
 match_map true P Q R S f g h = f h

@@ -7,7 +7,6 @@ use Rattle.std.proofs.lemmas.Bool.{eqb-true, false_from_ne_true}
 use Rattle.std.proofs.lemmas.List.{append-nil, append_assoc, drop_more, take_more}
 use Rattle.snap_base.proofs.Booleans.{and_true, or_assoc, or_false}
 use Rattle.snap_base.proofs.Lists.{all_filter}
-use Rattle.snap_base.specs.declared.ids.Bid.{Bid}
 use Rattle.snap_base.specs.declared.ids.Tid.{Tid}
 use Rattle.snap_base.specs.declared.transactions.Who as whose
 use Rattle.snap_base.specs.declared.transactions.Who.TheVariants.{Batch, Act}
@@ -17,8 +16,7 @@ use Rattle.protocol.specs.Words.{is_among}
 use Rattle.audit_words.proofs.Taken.{map_taken}
 use Rattle.audit_tale.specs.declared.tales.MemberTale.{MemberTale}
 use Rattle.audit_tale.specs.declared.told.ActorTale.{ActorTale}
-use Rattle.trace_audit.specs.Grouped.{gained, group_at}
-use Rattle.trace_audit.specs.Risen.{AreGrouped, all_rise, chain_of, has_stamp, is_above, is_of_act, is_of_batch, mark_of, readers_top, rises_to, stamped, standing, still_rises, writers_top}
+use Rattle.trace_audit.specs.Risen.{AreGrouped, all_rise, chain_of, has_stamp, is_above, is_of_batch, mark_of, readers_top, rises_to, stamped, standing, still_rises, writers_top}
 
 -- ---- one step
 
@@ -71,31 +69,6 @@ not_stamped stamps stamp t l h = false_from_ne_true (has_stamp stamps stamp t) (
 
     by : (x : ℕ) → x < stamp → x ≡ stamp → ⊥
     by x k e = omega (arith, k, e)
-
--- ---- groups
-
-filter_more : (p : MemberTale → Bool) (xs : List MemberTale) (x : MemberTale) → filter p (xs ++ x ∷ []) ≡ filter p xs ++ (if p x then x ∷ [] else [])
-filter_more p [] x = refl
-filter_more p (y ∷ xs) x = by (p y) (filter_more p xs x)
-  where
-    by : (b : Bool) → filter p (xs ++ x ∷ []) ≡ filter p xs ++ (if p x then x ∷ [] else []) → (if b then y ∷ filter p (xs ++ x ∷ []) else filter p (xs ++ x ∷ [])) ≡ (if b then y ∷ filter p xs else filter p xs) ++ (if p x then x ∷ [] else [])
-    by true e = ap (λ (z : List MemberTale). y ∷ z) e
-    by false e = e
-
-gains : (m : MemberTale) (ms : List MemberTale) (p : MemberTale → Bool) (group more : List MemberTale) (b : Bool) → group ≡ filter p ms → p m ≡ b → more ≡ group ++ (if b then m ∷ [] else []) → more ≡ filter p (ms ++ m ∷ [])
-gains m ms p group more b e q f = f ∙ (ap (λ (z : List MemberTale). z ++ (if b then m ∷ [] else [])) e ∙ (ap (λ (c : Bool). filter p ms ++ (if c then m ∷ [] else [])) (sym q) ∙ sym (filter_more p ms m)))
-
-pub batch_grouped : (ms : List MemberTale) (m : MemberTale) (k : Bid) (by_batch by_tid more : List (Vec MemberTale Global)) → m.who ≡ Batch k → AreGrouped ms by_batch by_tid → ((j : ℕ) → group_at more j ≡ group_at by_batch j ++ gained k.0 j m) → AreGrouped (ms ++ m ∷ []) more by_tid
-batch_grouped ms m k by_batch by_tid more e h f = record {
-  batches = λ j. gains m ms (λ x. is_of_batch j x.who) (group_at by_batch j) (group_at more j) (j == k.0) (h.batches j) (ap (λ (z : whose.Who). is_of_batch j z) e) (f j);
-  acts = λ t. gains m ms (λ x. is_of_act t x.who) (group_at by_tid t) (group_at by_tid t) false (h.acts t) (ap (λ (z : whose.Who). is_of_act t z) e) (sym (append-nil (group_at by_tid t)));
-}
-
-pub act_grouped : (ms : List MemberTale) (m : MemberTale) (t : Tid) (by_batch by_tid more : List (Vec MemberTale Global)) → m.who ≡ Act t → AreGrouped ms by_batch by_tid → ((u : ℕ) → group_at more u ≡ group_at by_tid u ++ gained t.0 u m) → AreGrouped (ms ++ m ∷ []) by_batch more
-act_grouped ms m t by_batch by_tid more e h f = record {
-  batches = λ j. gains m ms (λ x. is_of_batch j x.who) (group_at by_batch j) (group_at by_batch j) false (h.batches j) (ap (λ (z : whose.Who). is_of_batch j z) e) (sym (append-nil (group_at by_batch j)));
-  acts = λ u. gains m ms (λ x. is_of_act u x.who) (group_at by_tid u) (group_at more u) (u == t.0) (h.acts u) (ap (λ (z : whose.Who). is_of_act u z) e) (f u);
-}
 
 -- ---- a chain, by groups and stamps
 

@@ -7,7 +7,7 @@ use Rattle.aml_slice.specs.aml_check.Transactions.{IsTransaction}
 use Rattle.machine_laws.specs.Programs.{finish_of, with_code}
 use Rattle.protocol.specs.Fixed.{no_tx, tx_at}
 use Rattle.audit_words.specs.Reports.{meaning_of, report_lines}
-use Rattle.audit_laws.specs.Programs.{language_of_methods}
+use Rattle.audit_words.specs.Inputs.{language_of_methods}
 use Rattle.audit_laws.proofs.MeaningsAgree.{audited_so}
 use Rattle.audit_laws.proofs.ProgramsMean.{alone_as_many, pacts_in_text}
 use Rattle.audit_laws.proofs.programs.quiet_runs_are_audited_as_meant.Goals as goal
