@@ -57,7 +57,7 @@ module _ (front : List ℕ) (gate end : ℕ) (at : length front ≡ end) where
       ∙ append_assoc front (gate ∷ []) (drop (end + 1) image)
 
   -- while the gate is written, all but the gate stands
-  pub opening_image : (tail now image : List ℕ) → length now ≡ length (front ++ gate ∷ tail)
+  opening_image : (tail now image : List ℕ) → length now ≡ length (front ++ gate ∷ tail)
       → IsImage (record { synced = front ++ gate ∷ tail; now = now; loose = record { 0 = end; 1 = 1 } ∷ [] }) image
       → image ≡ front ++ get_or image end 0 ∷ tail
   opening_image tail now image long left =
@@ -88,6 +88,20 @@ module _ (front : List ℕ) (gate end : ℕ) (at : length front ≡ end) where
         ]
       ])
 
+  -- a write of one byte at the gate, and a sync: what holds whatever the gate is holds at each moment
+  pub gate_moments : (new : ℕ) (tail : List ℕ) (P : List ℕ → Type 0) → ((x : ℕ) → P (front ++ x ∷ tail))
+      → EachMoment (settled (front ++ gate ∷ tail)) (Write end (new ∷ []) ∷ Sync ∷ []) P
+  gate_moments new tail P all =
+      let done = written_gate new tail in
+      let long : length (overwritten (front ++ gate ∷ tail) end (new ∷ [])) ≡ length (front ++ gate ∷ tail) =
+      ap (λ (l : List ℕ). length l) done ∙ omega (arith, length-append front (new ∷ tail), length-append front (gate ∷ tail)) in (
+        (λ image left. subst P (sym (image_is _ image left)) (all gate)),
+        (
+          (λ image left. subst P (sym (opening_image tail _ image long left)) (all (get_or image end 0))),
+          (λ image left. subst P (sym (image_is _ image left ∙ done)) (all new)),
+        ),
+      )
+
   -- what there is when all four are done
   pub append_end : (piece rest : List ℕ) → disk_after (block_ops end piece) (settled (front ++ gate ∷ rest))
       ≡ settled (front ++ 1 ∷ (piece ++ drop (end + 1 + length piece) (front ++ gate ∷ rest)))
@@ -108,17 +122,7 @@ module _ (front : List ℕ) (gate end : ℕ) (at : length front ≡ end) where
     ]
 
     opened : EachMoment (settled (front ++ gate ∷ (piece ++ after))) (Write end (1 ∷ []) ∷ Sync ∷ []) P
-    opened =
-        let tail = piece ++ after in
-        let done = written_gate 1 tail in
-        let long : length (overwritten (front ++ gate ∷ tail) end (1 ∷ [])) ≡ length (front ++ gate ∷ tail) =
-        ap (λ (l : List ℕ). length l) done ∙ omega (arith, length-append front (1 ∷ tail), length-append front (gate ∷ tail)) in (
-          (λ image left. subst P (sym (image_is _ image left)) (old gate tail closed)),
-          (
-            (λ image left. subst P (sym (opening_image tail _ image long left)) (either_gate (get_or image end 0) after)),
-            (λ image left. subst P (sym (image_is _ image left ∙ done)) (new after)),
-          ),
-        )
+    opened = gate_moments 1 (piece ++ after) P (λ x. either_gate x after)
 
     -- each moment of the four operations
     pub append_moments : EachMoment (settled (front ++ gate ∷ rest)) (block_ops end piece) P

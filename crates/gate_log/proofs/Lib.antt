@@ -4,6 +4,8 @@ pub mod AppendExits
 pub mod AppendItems
 pub mod AppendLogs
 pub mod Beginnings
+pub mod ClearExits
+pub mod ClearLogs
 pub mod OneReading
 pub mod OpenCrashes
 pub mod OpenDisks

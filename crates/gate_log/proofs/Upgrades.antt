@@ -1,33 +1,20 @@
 -- The two operations of an upgrade on a log.
-use Rattle.std.proofs.Common.{◌≡◌, ℕ, Bool, true, false, List, [], ◌∷◌, ◌++◌, length, get_or, refl, sym, ap, subst, ◌∙◌}
+use Rattle.std.proofs.Common.{◌≡◌, ℕ, Bool, true, false, List, [], ◌∷◌, ◌++◌, length, refl, sym, ap, subst, ◌∙◌}
 use Rattle.std.specs.Prelude.{nat_le, if◌then◌else◌}
 use Rattle.std.proofs.lemmas.List.{append-nil}
 use Rattle.snap_outside.specs.declared.devices.DevOp.{DevOp}
-use Rattle.snap_outside.specs.Disk.{DeviceHistory, Disk, settled, disk, disk_after, content, overwritten, EachMoment, with_ops}
+use Rattle.snap_outside.specs.Disk.{DeviceHistory, Disk, settled, disk, disk_after, content, EachMoment, with_ops}
 use Rattle.snap_outside.specs.Moments.{disk_join}
-use Rattle.snap_outside.proofs.Images.{image_is}
 use Rattle.gate_log.specs.declared.limits.TheConstants.{NEW_LOG_SIZE}
 use Rattle.gate_log.specs.Appends.{append_ops, upgrade_ops}
 use Rattle.gate_log.specs.Bytes.{magic, blocks, marked_format, format_in, IsLog, IsLogAt}
 use Rattle.gate_log.specs.Device.{DeviceLog, MayAppend}
 use Rattle.gate_log.proofs.AppendBytes.{log_of}
-use Rattle.gate_log.proofs.AppendDisks.{written_gate, opening_image}
+use Rattle.gate_log.proofs.AppendDisks.{written_gate, gate_moments}
 use Rattle.gate_log.proofs.AppendLogs.{mark_stays}
 use Rattle.gate_log.proofs.OpenDisks.{settled_log}
 
 -- ---- over plain lists
-
--- what holds whatever the mark is holds at each moment
-mark_moments : (mark : ℕ) (tail : List ℕ) (P : List ℕ → Type 0) → ((x : ℕ) → P (magic ++ x ∷ tail)) → EachMoment (settled (magic ++ mark ∷ tail)) upgrade_ops P
-mark_moments mark tail P all =
-    let done = written_gate magic mark 7 refl 50 tail in
-    let long : length (overwritten (magic ++ mark ∷ tail) 7 (50 ∷ [])) ≡ length (magic ++ mark ∷ tail) = ap (λ (l : List ℕ). length l) done in (
-      (λ image left. subst P (sym (image_is (magic ++ mark ∷ tail) image left)) (all mark)),
-      (
-        (λ image left. subst P (sym (opening_image magic mark 7 refl tail (overwritten (magic ++ mark ∷ tail) 7 (50 ∷ [])) image long left)) (all (get_or image 7 0))),
-        (λ image left. subst P (sym (image_is (overwritten (magic ++ mark ∷ tail) 7 (50 ∷ [])) image left ∙ done)) (all 50)),
-      ),
-    )
 
 mark_end : (mark : ℕ) (tail : List ℕ) → disk_after upgrade_ops (settled (magic ++ mark ∷ tail)) ≡ settled (magic ++ 50 ∷ tail)
 mark_end mark tail = ap settled (written_gate magic mark 7 refl 50 tail)
@@ -62,7 +49,7 @@ upgrade_keeps h end items log =
     let tail : List ℕ = blocks p.0 ++ p.1 ∷ p.2 in
     subst (λ (d : Disk). EachMoment d upgrade_ops (λ image. IsLog image items)) (sym log.quiet)
     (subst (λ (b : List ℕ). EachMoment (settled b) upgrade_ops (λ image. IsLog image items)) (sym p.5)
-    (mark_moments log.log.mark tail (λ image. IsLog image items) (λ x. log_of (magic ++ x ∷ tail) end items (marked_log (content h) end items log.log x))))
+    (gate_moments magic log.log.mark 7 refl 50 tail (λ image. IsLog image items) (λ x. log_of (magic ++ x ∷ tail) end items (marked_log (content h) end items log.log x))))
 
 pub append_keeps_format : (h : DeviceHistory) (end : ℕ) (items added : List (List ℕ)) → MayAppend end added → DeviceLog h end items
     → marked_format (content (with_ops h (append_ops end added))) ≡ marked_format (content h)

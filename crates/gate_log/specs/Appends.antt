@@ -1,9 +1,9 @@
--- The operations of an append, and those that one which is refused has made.
-use Rattle.std.specs.Prelude.{◌≡◌, ℕ, ◌+◌, ◌==◌, if◌then◌else◌, List, [], ◌∷◌, ◌++◌, length, Option}
+-- The operations of an append, of an upgrade and of a clearing, and those that one which is refused has made.
+use Rattle.std.specs.Prelude.{◌≡◌, ℕ, ◌+◌, ◌==◌, nat_le, if◌then◌else◌, List, [], ◌∷◌, ◌++◌, length, Option}
 use Rattle.snap_outside.specs.declared.devices.DevOp.{DevOp}
 use Rattle.snap_outside.specs.declared.devices.DevOp.TheVariants.{Write, Sync}
 use Rattle.snap_outside.specs.Disk.{DeviceHistory, AddsUpToFault}
-use Rattle.gate_log.specs.Bytes.{MARK_2, format_in, items_bytes, group_bytes}
+use Rattle.gate_log.specs.Bytes.{FIRST_GATE, MARK_2, format_in, items_bytes, group_bytes}
 use Rattle.gate_log.specs.declared.logs.AppendNo.{AppendNo}
 use Rattle.gate_log.specs.declared.logs.AppendNo.TheVariants.{Device, Shut, Memory}
 
@@ -33,7 +33,15 @@ upgrade_ops = Write 7 (MARK_2 ∷ []) ∷ Sync ∷ []
 abbrev pub upgrading_ops : List ℕ → List DevOp
 upgrading_ops bytes = if format_in bytes == 1 then upgrade_ops else []
 
--- What an append, or an upgrade, of these operations that is refused did to the device.
+-- the first gate is closed, and that is made durable
+abbrev pub close_ops : List DevOp
+close_ops = Write FIRST_GATE (0 ∷ []) ∷ Sync ∷ []
+
+-- the operations of a clearing, of which there are none where the closed gate is the first one
+abbrev pub clear_ops : ℕ → List DevOp
+clear_ops end = if nat_le end FIRST_GATE then [] else close_ops
+
+-- What an append, an upgrade or a clearing of these operations that is refused did to the device.
 abbrev pub AddsRefused : Option DeviceHistory → Option DeviceHistory → List DevOp → AppendNo → Type 0
 AddsRefused old new ops Device = AddsUpToFault old new ops
 AddsRefused old new ops Shut = new ≡ old

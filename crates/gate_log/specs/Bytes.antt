@@ -13,6 +13,10 @@ magic = codes "SNAPLOG"
 abbrev pub header : ℕ → List ℕ
 header mark = magic ++ mark ∷ []
 
+-- the first gate stands behind them, and behind the mark
+abbrev pub FIRST_GATE : ℕ
+FIRST_GATE = 8
+
 -- ---- formats
 
 -- the marks of logs of format 1, and of those that are written in format 2

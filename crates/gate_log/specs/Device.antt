@@ -1,11 +1,11 @@
 -- A log on a device, and what each crash inside a call leaves of it.
-use Rattle.std.specs.Prelude.{◌≡◌, ℕ, ◌+◌, ◌-◌, ◌<◌, ◌≤◌, ◌^◌, ◌⊎◌, List, ◌++◌, length, Option, IfSome, IsSome}
+use Rattle.std.specs.Prelude.{◌≡◌, ℕ, ◌+◌, ◌-◌, ◌<◌, ◌≤◌, ◌^◌, ◌⊎◌, List, [], ◌++◌, length, Option, IfSome, IsSome}
 use Rattle.std.specs.Option.{ForSome}
 use Rattle.std.specs.List.{AllByRecursion}
 use Rattle.snap_outside.specs.declared.devices.DevOp.{DevOp}
 use Rattle.snap_outside.specs.Disk.{DeviceHistory, disk, content, settled, EachMoment, AddsAll}
 use Rattle.gate_log.specs.declared.limits.TheConstants.{LARGEST_GROUP}
-use Rattle.gate_log.specs.Bytes.{IsItem, IsLog, IsLogAt, marked_format, format_in, items_bytes}
+use Rattle.gate_log.specs.Bytes.{FIRST_GATE, IsItem, IsLog, IsLogAt, marked_format, format_in, items_bytes}
 
 -- The device holds a log of these items whose closed gate stands at `end`, and nothing of it is loose.
 pub record DeviceLog (h : DeviceHistory) (end : ℕ) (items : List (List ℕ)) : Type 0 where
@@ -45,6 +45,17 @@ abbrev pub Upgraded : Option DeviceHistory → Option DeviceHistory → ℕ → 
 Upgraded old new end =
     IfSome old (λ h. IfSome new (λ g. (items : List (List ℕ)) → DeviceLog h end items → DeviceLog g end items))
     × HasFormat new 2
+
+-- Whatever a crash leaves at any moment of a clearing is the log from before it, or one of no item.
+abbrev pub ClearsSafely : Option DeviceHistory → Option DeviceHistory → ℕ → Type 0
+ClearsSafely old new end =
+    IfSome old (λ h. (ops : List DevOp) × AddsAll old new ops
+    × ((items : List (List ℕ)) → DeviceLog h end items → EachMoment (disk h) ops (λ image. IsLog image items ⊎ IsLog image [])))
+
+-- The device held a log; now it holds one of no item.
+abbrev pub Cleared : Option DeviceHistory → Option DeviceHistory → ℕ → Type 0
+Cleared old new end =
+    IfSome old (λ h. IfSome new (λ g. (items : List (List ℕ)) → DeviceLog h end items → DeviceLog g FIRST_GATE []))
 
 -- Where a log is not shut: if the device tells its history, it holds a log at `end` of this format; its length is known, and
 -- the closed gate lies in the device.

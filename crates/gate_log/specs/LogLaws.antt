@@ -1,12 +1,12 @@
 -- What holds of every log. A law of `src/laws.rt` says each of these, and a proof that rests on one takes it as a
 -- premise.
-use Rattle.std.specs.Prelude.{◌≡◌, ℕ, ◌⊎◌, List, ◌++◌, Option, Some}
+use Rattle.std.specs.Prelude.{◌≡◌, ℕ, ◌⊎◌, List, [], ◌++◌, Option, Some}
 use Rattle.snap_outside.specs.Disk.{DeviceHistory, disk, content, settled, with_ops, AddsAll, AddsUpToFault, EachMoment}
 use Rattle.gate_log.specs.declared.logs.LogItem.{LogItem}
 use Rattle.gate_log.specs.declared.opens.OpenNo.{OpenNo}
-use Rattle.gate_log.specs.Appends.{append_ops, end_behind, upgrade_ops}
-use Rattle.gate_log.specs.Bytes.{IsLog, IsLogAt, IsPlacedLogAt, DiffersAt, IsDamagedAt, marked_format, format_in}
-use Rattle.gate_log.specs.Device.{DeviceLog, MayAppend}
+use Rattle.gate_log.specs.Appends.{append_ops, end_behind, upgrade_ops, clear_ops}
+use Rattle.gate_log.specs.Bytes.{FIRST_GATE, IsLog, IsLogAt, IsPlacedLogAt, DiffersAt, IsDamagedAt, marked_format, format_in}
+use Rattle.gate_log.specs.Device.{DeviceLog, HasFormat, MayAppend}
 use Rattle.gate_log.specs.Opened.{bytes_of, opening_ops, beginning_ops, Opened, Refused}
 
 -- ---- bytes
@@ -116,6 +116,26 @@ UpgradeKeeps =
 -- bytes with a mark of format 2 are of format 2, however long they are
 abbrev pub MarkedIsSecond : Type 0
 MarkedIsSecond = (bytes : List ℕ) → marked_format bytes ≡ 2 → format_in bytes ≡ 2
+
+-- ---- a clearing
+
+-- behind a clearing's operations the device holds a log of no item
+abbrev pub ClearGives : Type 0
+ClearGives =
+    (h : DeviceHistory) (end : ℕ) (items : List (List ℕ)) → DeviceLog h end items
+    → DeviceLog (with_ops h (clear_ops end)) FIRST_GATE []
+
+-- whatever a crash leaves while a clearing's operations are made has the items from before, or none
+abbrev pub ClearKeeps : Type 0
+ClearKeeps =
+    (h : DeviceHistory) (end : ℕ) (items : List (List ℕ)) → DeviceLog h end items
+    → EachMoment (disk h) (clear_ops end) (λ image. IsLog image items ⊎ IsLog image [])
+
+-- a clearing leaves the format
+abbrev pub ClearKeepsFormat : Type 0
+ClearKeepsFormat =
+    (h : DeviceHistory) (end format : ℕ) (items : List (List ℕ)) → DeviceLog h end items → HasFormat (Some h) format
+    → HasFormat (Some (with_ops h (clear_ops end))) format
 
 -- ---- a beginning: an opening, and an upgrade where the log is of format 1
 

@@ -1,5 +1,5 @@
-//! Laws of every log: its one reading, and what a crash leaves of an opening, an append and an upgrade.
-ghost use Rattle.gate_log.specs.LogLaws.{OneReading, OneList, LogAtIsLog, PlacedIsLogAt, DamageIsNoLog, OneDamage, DifferenceIsNoLog, DifferenceIsNoDamage, OneDifference, OpeningAdds, RefusalAdds, OpeningGives, OpeningKeeps, OpeningKeepsFormat, AppendGives, AppendKeeps, AppendKeepsFormat, UpgradeGives, UpgradeKeeps, MarkedIsSecond, BeginningGives, BeginningKeeps};
+//! Laws of every log: its one reading, and what a crash leaves of an opening, an append, an upgrade and a clearing.
+ghost use Rattle.gate_log.specs.LogLaws.{OneReading, OneList, LogAtIsLog, PlacedIsLogAt, DamageIsNoLog, OneDamage, DifferenceIsNoLog, DifferenceIsNoDamage, OneDifference, OpeningAdds, RefusalAdds, OpeningGives, OpeningKeeps, OpeningKeepsFormat, AppendGives, AppendKeeps, AppendKeepsFormat, UpgradeGives, UpgradeKeeps, MarkedIsSecond, ClearGives, ClearKeeps, ClearKeepsFormat, BeginningGives, BeginningKeeps};
 
 /// Bytes are a log in one way at most: with one closed gate and one list of items.
 pub fn one_reading()
@@ -57,6 +57,13 @@ pub fn upgrade_is_safe()
     ensures gives { UpgradeGives }
     ensures keeps { UpgradeKeeps }
     ensures second { MarkedIsSecond }
+{}
+
+/// The operations of a clearing leave no item, and the format. A crash at any moment of them leaves all items or none.
+pub fn clear_is_safe()
+    ensures gives { ClearGives }
+    ensures keeps { ClearKeeps }
+    ensures format { ClearKeepsFormat }
 {}
 
 /// An opening and the upgrade behind it leave the log that was found. A crash at any moment of them loses no item.

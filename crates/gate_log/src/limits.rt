@@ -9,5 +9,8 @@ pub const LARGEST_GROUP: u64 = 1 << 31;
 /// How many bytes a new log has: the header and a closed gate. No fewer hold an item, and none more is overwritten.
 pub const NEW_LOG_SIZE: u64 = 9;
 
+/// Where the first gate stands: behind the header.
+pub(crate) const FIRST_GATE: u64 = 8;
+
 /// No log that opening finds ends behind this offset.
 pub const FARTHEST_END: u64 = 1 << 63;

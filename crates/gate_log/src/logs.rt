@@ -13,10 +13,11 @@ use snap_outside::LogDev;
 use std::alloc::Global;
 use std::marker::Model;
 
-/// Why nothing was appended, or why it is not known.
+/// Why nothing was appended, upgraded or cleared, or why it is not known.
 #[derive(Clone, Copy, Debug, PartialEq, Eq)]
 pub enum AppendNo {
-    /// The device failed. The log is shut from now on: a crash leaves the list with the group or without it.
+    /// The device failed. The log is shut from now on: a crash leaves the list from before the call, or the one that the
+    /// call makes.
     Device,
     /// An earlier call met a failing device, so the log is shut. No call of the device was made.
     Shut,
