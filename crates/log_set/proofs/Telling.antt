@@ -14,7 +14,7 @@ actors_back actors = map (λ (a : ActorId). a.0) actors
 abbrev tids_back : List Tid → List ℕ
 tids_back tids = map (λ (t : Tid). t.0) tids
 
--- a Genesis and the commits of format 1 are none of the machine's: any record does
+-- a Genesis, a Checkpoint and the commits of format 1 are none of the machine's: any record does
 abbrev told_back : Record → LogRecord
 told_back (records.Genesis logs states) = BatchDone logs []
 told_back (records.BatchInfo bid actors tids) = BatchInfo bid.0 (actors_back actors) (tids_back tids)
@@ -24,6 +24,7 @@ told_back (records.ActPrepare tid actor state) = ActPrepare tid.0 actor.0 state
 told_back (records.ActCommit tid m c actors) = ActDone tid.0 m.0 c (pos 0) (actors_back actors)
 told_back (records.BatchDone bid values) = BatchDone bid.0 values
 told_back (records.ActDone tid m c value actors) = ActDone tid.0 m.0 c value (actors_back actors)
+told_back (records.Checkpoint generation next_tid next_bid next_c batches acts states) = BatchDone generation []
 
 actors_again : (actors : List ℕ) → actors_back (map actor_of actors) ≡ actors
 actors_again [] = refl

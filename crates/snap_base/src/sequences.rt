@@ -35,6 +35,13 @@ impl<T> Sequence<T> {
         Sequence { items }
     }
 
+    /// The elements as a vector, in order.
+    pub fn into_vec(self) -> Vec<T>
+        ensures { result.items ≡ self }
+    {
+        self.items
+    }
+
     /// How many elements the list has.
     pub fn len(&self) -> usize
         ensures { result ≡ length self.now }

@@ -8,7 +8,7 @@ use Rattle.txn_records.specs.declared.numbers.Stop.{Stop}
 use Rattle.txn_records.specs.Records.{IsState, field_bytes, state_bytes, states_bytes, actors_bytes, tids_bytes, values_bytes}
 use Rattle.txn_records.specs.Stops.{IsWhyUnread, Any, Nil, Seq}
 use Rattle.txn_records.specs.Numbers.{Between}
-use Rattle.txn_records.specs.Texts.{one_byte, AreStates, AreActors, AreTids, AreValues, Count, FewCount, Number, Actor, Field, GenesisTexts, InfoTexts, CompleteTexts, CommitTexts, ActTexts, DoneTexts, ActDoneTexts}
+use Rattle.txn_records.specs.Texts.{one_byte, AreStates, AreActors, AreTids, AreValues, Count, FewCount, Number, SomeNumber, Actor, Field, GenesisTexts, InfoTexts, CompleteTexts, CommitTexts, ActTexts, DoneTexts, ActDoneTexts, CheckpointTexts, CountedStates}
 use Rattle.txn_records.proofs.OneRecord.{SpelledApart, apart_through, apart16, apart64, Below, lists_apart, actors_apart, tids_apart, fields_apart, states_apart, actor_bytes, tid_bytes, IsActor, IsTid, are_actors, are_tids}
 use Rattle.txn_records.proofs.Digits.{bytes_apart}
 use Rattle.txn_records.proofs.Lists.{copies, are_copies, row, row_rises, fails_first, fails_after}
@@ -17,6 +17,9 @@ use Rattle.txn_records.proofs.Lists.{copies, are_copies, row, row_rises, fails_f
 
 number_apart : SpelledApart (Between 0 18446744073709551615) (to_be_bytes w64)
 number_apart = apart_through (Between 0 18446744073709551615) (Below (2 ^ 64)) (λ (n : ℕ). n) (to_be_bytes w64) (λ a p. omega (arith, p)) (λ a b p q e. e) apart64
+
+some_number_apart : SpelledApart (Between 1 18446744073709551615) (to_be_bytes w64)
+some_number_apart = apart_through (Between 1 18446744073709551615) (Below (2 ^ 64)) (λ (n : ℕ). n) (to_be_bytes w64) (λ a p. omega (arith, p)) (λ a b p q e. e) apart64
 
 actor_apart : SpelledApart (Between 0 65535) (to_be_bytes w16)
 actor_apart = apart_through (Between 0 65535) (Below (2 ^ 16)) (λ (n : ℕ). n) (to_be_bytes w16) (λ a p. omega (arith, p)) (λ a b p q e. e) apart16
@@ -74,6 +77,21 @@ ActNumber = Number (λ c. ActCount)
 abbrev pub ActBatch : List ℕ → Type 0
 ActBatch = Number (λ m. ActNumber)
 
+abbrev pub CheckpointActs : List ℕ → Type 0
+CheckpointActs = Number (λ n. CountedStates)
+
+abbrev pub CheckpointBatches : List ℕ → Type 0
+CheckpointBatches = Number (λ m. CheckpointActs)
+
+abbrev pub CheckpointC : List ℕ → Type 0
+CheckpointC = SomeNumber (λ c. CheckpointBatches)
+
+abbrev pub CheckpointBid : List ℕ → Type 0
+CheckpointBid = SomeNumber (λ b. CheckpointC)
+
+abbrev pub CheckpointTid : List ℕ → Type 0
+CheckpointTid = SomeNumber (λ t. CheckpointBid)
+
 abbrev pub DoneValues : ℕ → List ℕ → Type 0
 DoneValues n = Seq (AreValues n) values_bytes (λ vs. Nil)
 
@@ -111,7 +129,7 @@ count_actors_some = seq_some (Between 1 256) (to_be_bytes w16) InfoActors 1 (ome
 states_some : (n : ℕ) → Some (GenesisStates n)
 states_some n = seq_some (AreStates n) states_bytes (λ xs. Nil) (copies some_state.0 n) (are_copies IsState some_state.0 some_state.1 n) nil_some
 
-count_states_some : Some (Count GenesisStates)
+count_states_some : Some (CountedStates)
 count_states_some = seq_some (Between 1 256) (to_be_bytes w16) GenesisStates 1 (omega arith, omega arith) (states_some 1)
 
 state_some : (n : ℕ) → Some (CompleteState n)
@@ -130,6 +148,9 @@ act_count_some = seq_some (Between 1 16) (to_be_bytes w16) ActActors 1 (omega ar
 
 number_some : (F : List ℕ → Type 0) → Some F → Some (Number (λ n. F))
 number_some F s = seq_some (Between 0 18446744073709551615) (to_be_bytes w64) (λ n. F) 0 (omega arith, omega arith) s
+
+some_number_some : (F : List ℕ → Type 0) → Some F → Some (SomeNumber (λ n. F))
+some_number_some F s = seq_some (Between 1 18446744073709551615) (to_be_bytes w64) (λ n. F) 1 (omega arith, omega arith) s
 
 act_number_some : Some ActNumber
 act_number_some = number_some ActCount act_count_some
@@ -151,6 +172,21 @@ act_done_number_some = number_some ActValue act_value_some
 
 act_done_batch_some : Some ActDoneBatch
 act_done_batch_some = number_some ActDoneNumber act_done_number_some
+
+checkpoint_acts_some : Some CheckpointActs
+checkpoint_acts_some = number_some CountedStates count_states_some
+
+checkpoint_batches_some : Some CheckpointBatches
+checkpoint_batches_some = number_some CheckpointActs checkpoint_acts_some
+
+checkpoint_c_some : Some CheckpointC
+checkpoint_c_some = some_number_some CheckpointBatches checkpoint_batches_some
+
+checkpoint_bid_some : Some CheckpointBid
+checkpoint_bid_some = some_number_some CheckpointC checkpoint_c_some
+
+checkpoint_tid_some : Some CheckpointTid
+checkpoint_tid_some = some_number_some CheckpointBid checkpoint_bid_some
 
 -- ---- BatchCommit
 
@@ -296,22 +332,66 @@ act_value bytes stop s = fails_first (FitsSigned w64) field_bytes (λ v. ActCoun
 pub behind_act_value : (v : ℤ) (bytes rest : List ℕ) (stop : Stop) → FitsSigned w64 v × (bytes ≡ field_bytes v ++ rest) → IsWhyUnread ActCount rest stop → IsWhyUnread ActValue bytes stop
 behind_act_value v bytes rest stop p s = fails_after (FitsSigned w64) field_bytes (λ v. ActCount) fields_apart v bytes rest stop p.0 p.1 s
 
--- ---- Genesis
+-- ---- Genesis, and the states with which it and a Checkpoint end
 
 pub genesis_logs : (bytes : List ℕ) (stop : Stop) → IsWhyUnread (Seq (Between 1 4) one_byte (λ n. Any)) bytes stop → IsWhyUnread GenesisTexts bytes stop
-genesis_logs bytes stop s = fails_first (Between 1 4) one_byte (λ n. Count GenesisStates) bytes stop (λ n p. count_states_some) s
+genesis_logs bytes stop s = fails_first (Between 1 4) one_byte (λ n. CountedStates) bytes stop (λ n p. count_states_some) s
 
-pub behind_genesis_logs : (n : ℕ) (bytes rest : List ℕ) (stop : Stop) → Between 1 4 n × (bytes ≡ one_byte n ++ rest) → IsWhyUnread (Count GenesisStates) rest stop → IsWhyUnread GenesisTexts bytes stop
-behind_genesis_logs n bytes rest stop p s = fails_after (Between 1 4) one_byte (λ n. Count GenesisStates) (bytes_apart (Between 1 4)) n bytes rest stop p.0 p.1 s
+pub behind_genesis_logs : (n : ℕ) (bytes rest : List ℕ) (stop : Stop) → Between 1 4 n × (bytes ≡ one_byte n ++ rest) → IsWhyUnread (CountedStates) rest stop → IsWhyUnread GenesisTexts bytes stop
+behind_genesis_logs n bytes rest stop p s = fails_after (Between 1 4) one_byte (λ n. CountedStates) (bytes_apart (Between 1 4)) n bytes rest stop p.0 p.1 s
 
-pub genesis_count : (bytes : List ℕ) (stop : Stop) → IsWhyUnread (Count (λ n. Any)) bytes stop → IsWhyUnread (Count GenesisStates) bytes stop
-genesis_count bytes stop s = fails_first (Between 1 256) (to_be_bytes w16) GenesisStates bytes stop (λ n p. states_some n) s
+pub states_count : (bytes : List ℕ) (stop : Stop) → IsWhyUnread (Count (λ n. Any)) bytes stop → IsWhyUnread (CountedStates) bytes stop
+states_count bytes stop s = fails_first (Between 1 256) (to_be_bytes w16) GenesisStates bytes stop (λ n p. states_some n) s
 
-pub behind_genesis_count : (n : ℕ) (bytes rest : List ℕ) (stop : Stop) → Between 1 256 n × (bytes ≡ to_be_bytes w16 n ++ rest) → IsWhyUnread (GenesisStates n) rest stop → IsWhyUnread (Count GenesisStates) bytes stop
-behind_genesis_count n bytes rest stop p s = fails_after (Between 1 256) (to_be_bytes w16) GenesisStates count_apart n bytes rest stop p.0 p.1 s
+pub behind_states_count : (n : ℕ) (bytes rest : List ℕ) (stop : Stop) → Between 1 256 n × (bytes ≡ to_be_bytes w16 n ++ rest) → IsWhyUnread (GenesisStates n) rest stop → IsWhyUnread (CountedStates) bytes stop
+behind_states_count n bytes rest stop p s = fails_after (Between 1 256) (to_be_bytes w16) GenesisStates count_apart n bytes rest stop p.0 p.1 s
 
-pub genesis_states : (n : ℕ) (bytes : List ℕ) (stop : Stop) → IsWhyUnread (Seq (AreStates n) states_bytes (λ xs. Any)) bytes stop → IsWhyUnread (GenesisStates n) bytes stop
-genesis_states n bytes stop s = fails_first (AreStates n) states_bytes (λ xs. Nil) bytes stop (λ xs p. nil_some) s
+pub states_listed : (n : ℕ) (bytes : List ℕ) (stop : Stop) → IsWhyUnread (Seq (AreStates n) states_bytes (λ xs. Any)) bytes stop → IsWhyUnread (GenesisStates n) bytes stop
+states_listed n bytes stop s = fails_first (AreStates n) states_bytes (λ xs. Nil) bytes stop (λ xs p. nil_some) s
 
-pub genesis_end : (n : ℕ) (xs : List State) (bytes rest : List ℕ) (stop : Stop) → AreStates n xs × (bytes ≡ states_bytes xs ++ rest) → IsWhyUnread Nil rest stop → IsWhyUnread (GenesisStates n) bytes stop
-genesis_end n xs bytes rest stop p s = fails_after (AreStates n) states_bytes (λ xs. Nil) (so_many_states n) xs bytes rest stop p.0 p.1 s
+pub states_end : (n : ℕ) (xs : List State) (bytes rest : List ℕ) (stop : Stop) → AreStates n xs × (bytes ≡ states_bytes xs ++ rest) → IsWhyUnread Nil rest stop → IsWhyUnread (GenesisStates n) bytes stop
+states_end n xs bytes rest stop p s = fails_after (AreStates n) states_bytes (λ xs. Nil) (so_many_states n) xs bytes rest stop p.0 p.1 s
+
+-- ---- Checkpoint
+
+some_number_fails : (F : List ℕ → Type 0) → Some F → (bytes : List ℕ) (stop : Stop) → IsWhyUnread (SomeNumber (λ n. Any)) bytes stop → IsWhyUnread (SomeNumber (λ n. F)) bytes stop
+some_number_fails F some bytes stop s = fails_first (Between 1 18446744073709551615) (to_be_bytes w64) (λ n. F) bytes stop (λ n p. some) s
+
+behind_some_number : (F : List ℕ → Type 0) (n : ℕ) (bytes rest : List ℕ) (stop : Stop) → Between 1 18446744073709551615 n × (bytes ≡ to_be_bytes w64 n ++ rest) → IsWhyUnread F rest stop → IsWhyUnread (SomeNumber (λ n. F)) bytes stop
+behind_some_number F n bytes rest stop p s = fails_after (Between 1 18446744073709551615) (to_be_bytes w64) (λ n. F) some_number_apart n bytes rest stop p.0 p.1 s
+
+pub checkpoint_generation : (bytes : List ℕ) (stop : Stop) → IsWhyUnread (SomeNumber (λ n. Any)) bytes stop → IsWhyUnread CheckpointTexts bytes stop
+checkpoint_generation bytes stop s = some_number_fails CheckpointTid checkpoint_tid_some bytes stop s
+
+pub behind_checkpoint_generation : (n : ℕ) (bytes rest : List ℕ) (stop : Stop) → Between 1 18446744073709551615 n × (bytes ≡ to_be_bytes w64 n ++ rest) → IsWhyUnread CheckpointTid rest stop → IsWhyUnread CheckpointTexts bytes stop
+behind_checkpoint_generation n bytes rest stop p s = behind_some_number CheckpointTid n bytes rest stop p s
+
+pub checkpoint_tid : (bytes : List ℕ) (stop : Stop) → IsWhyUnread (SomeNumber (λ n. Any)) bytes stop → IsWhyUnread CheckpointTid bytes stop
+checkpoint_tid bytes stop s = some_number_fails CheckpointBid checkpoint_bid_some bytes stop s
+
+pub behind_checkpoint_tid : (n : ℕ) (bytes rest : List ℕ) (stop : Stop) → Between 1 18446744073709551615 n × (bytes ≡ to_be_bytes w64 n ++ rest) → IsWhyUnread CheckpointBid rest stop → IsWhyUnread CheckpointTid bytes stop
+behind_checkpoint_tid n bytes rest stop p s = behind_some_number CheckpointBid n bytes rest stop p s
+
+pub checkpoint_bid : (bytes : List ℕ) (stop : Stop) → IsWhyUnread (SomeNumber (λ n. Any)) bytes stop → IsWhyUnread CheckpointBid bytes stop
+checkpoint_bid bytes stop s = some_number_fails CheckpointC checkpoint_c_some bytes stop s
+
+pub behind_checkpoint_bid : (n : ℕ) (bytes rest : List ℕ) (stop : Stop) → Between 1 18446744073709551615 n × (bytes ≡ to_be_bytes w64 n ++ rest) → IsWhyUnread CheckpointC rest stop → IsWhyUnread CheckpointBid bytes stop
+behind_checkpoint_bid n bytes rest stop p s = behind_some_number CheckpointC n bytes rest stop p s
+
+pub checkpoint_c : (bytes : List ℕ) (stop : Stop) → IsWhyUnread (SomeNumber (λ n. Any)) bytes stop → IsWhyUnread CheckpointC bytes stop
+checkpoint_c bytes stop s = some_number_fails CheckpointBatches checkpoint_batches_some bytes stop s
+
+pub behind_checkpoint_c : (n : ℕ) (bytes rest : List ℕ) (stop : Stop) → Between 1 18446744073709551615 n × (bytes ≡ to_be_bytes w64 n ++ rest) → IsWhyUnread CheckpointBatches rest stop → IsWhyUnread CheckpointC bytes stop
+behind_checkpoint_c n bytes rest stop p s = behind_some_number CheckpointBatches n bytes rest stop p s
+
+pub checkpoint_batches : (bytes : List ℕ) (stop : Stop) → IsWhyUnread (Number (λ n. Any)) bytes stop → IsWhyUnread CheckpointBatches bytes stop
+checkpoint_batches bytes stop s = number_fails CheckpointActs checkpoint_acts_some bytes stop s
+
+pub behind_checkpoint_batches : (n : ℕ) (bytes rest : List ℕ) (stop : Stop) → Between 0 18446744073709551615 n × (bytes ≡ to_be_bytes w64 n ++ rest) → IsWhyUnread CheckpointActs rest stop → IsWhyUnread CheckpointBatches bytes stop
+behind_checkpoint_batches n bytes rest stop p s = behind_number CheckpointActs n bytes rest stop p s
+
+pub checkpoint_acts : (bytes : List ℕ) (stop : Stop) → IsWhyUnread (Number (λ n. Any)) bytes stop → IsWhyUnread CheckpointActs bytes stop
+checkpoint_acts bytes stop s = number_fails CountedStates count_states_some bytes stop s
+
+pub behind_checkpoint_acts : (n : ℕ) (bytes rest : List ℕ) (stop : Stop) → Between 0 18446744073709551615 n × (bytes ≡ to_be_bytes w64 n ++ rest) → IsWhyUnread CountedStates rest stop → IsWhyUnread CheckpointActs bytes stop
+behind_checkpoint_acts n bytes rest stop p s = behind_number CountedStates n bytes rest stop p s

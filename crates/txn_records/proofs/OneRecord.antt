@@ -12,8 +12,8 @@ use Rattle.snap_base.specs.declared.ids.Tid.{Tid}
 use Rattle.snap_base.specs.declared.transactions.State.{State}
 use Rattle.snap_base.proofs.Lists.{same_front}
 use Rattle.txn_records.specs.declared.records.Record.{Record}
-use Rattle.txn_records.specs.declared.records.Record.TheVariants.{Genesis, BatchInfo, BatchComplete, BatchCommit, ActPrepare, ActCommit, BatchDone, ActDone}
-use Rattle.txn_records.specs.Records.{record_bytes, IsRecord, field_bytes, state_bytes, states_bytes, actors_bytes, tids_bytes, actor_numbers, tid_numbers, IsState, IsGenesis, IsInfo, IsComplete, IsCommit, IsPrepare, IsAct, Ascend, IsDone, IsActDone, values_bytes}
+use Rattle.txn_records.specs.declared.records.Record.TheVariants.{Genesis, BatchInfo, BatchComplete, BatchCommit, ActPrepare, ActCommit, BatchDone, ActDone, Checkpoint}
+use Rattle.txn_records.specs.Records.{record_bytes, IsRecord, field_bytes, state_bytes, states_bytes, actors_bytes, tids_bytes, actor_numbers, tid_numbers, IsState, IsGenesis, IsInfo, IsComplete, IsCommit, IsPrepare, IsAct, Ascend, IsDone, IsActDone, IsCheckpoint, values_bytes, counted_states_bytes}
 
 -- No spelling of a thing begins that of another.
 pub record SpelledApart {X : Type 0} (Is : X → Type 0) (spell : X → List ℕ) : Type 0 where
@@ -212,6 +212,32 @@ one_act_done a b m n c d f g xs ys p q e =
     let x = one_list IsActor actor_bytes actors_apart xs ys (are_actors 0 xs p.ascend) (are_actors 0 ys q.ascend) w.0 w.1 in
     ap (λ (z : Tid). ActDone z m c f xs) t.0 ∙ ap (λ (z : Bid). ActDone b z c f xs) u.0 ∙ ap (λ (z : ℕ). ActDone b n z f xs) v.0 ∙ ap (λ (z : ℤ). ActDone b n d z xs) o.0 ∙ ap (λ (zs : List ActorId). ActDone b n d g zs) x
 
+one_checkpoint : (g h : ℕ) (t u : Tid) (b d : Bid) (c e m k n l : ℕ) (xs ys : List State) → IsCheckpoint g t b c m n xs → IsCheckpoint h u d e k l ys
+    → record_bytes (Checkpoint g t b c m n xs) ≡ record_bytes (Checkpoint h u d e k l ys) → Checkpoint g t b c m n xs ≡ Checkpoint h u d e k l ys
+one_checkpoint g h t u b d c e m k n l xs ys p q same =
+    let x5 : List ℕ = to_be_bytes w64 n ++ counted_states_bytes xs in
+    let y5 : List ℕ = to_be_bytes w64 l ++ counted_states_bytes ys in
+    let x4 : List ℕ = to_be_bytes w64 m ++ x5 in
+    let y4 : List ℕ = to_be_bytes w64 k ++ y5 in
+    let x3 : List ℕ = to_be_bytes w64 c ++ x4 in
+    let y3 : List ℕ = to_be_bytes w64 e ++ y4 in
+    let x2 : List ℕ = bid_bytes b ++ x3 in
+    let y2 : List ℕ = bid_bytes d ++ y3 in
+    let x1 : List ℕ = tid_bytes t ++ x2 in
+    let y1 : List ℕ = tid_bytes u ++ y2 in
+    let s = same_front (16 ∷ []) (to_be_bytes w64 g ++ x1) (16 ∷ []) (to_be_bytes w64 h ++ y1) refl same in
+    let s1 = apart64.apart g h x1 y1 p.generation_fits q.generation_fits s.1 in
+    let s2 = tids_apart.apart t u x2 y2 p.tid_fits q.tid_fits s1.1 in
+    let s3 = bids_apart.apart b d x3 y3 p.bid_fits q.bid_fits s2.1 in
+    let s4 = apart64.apart c e x4 y4 p.c_fits q.c_fits s3.1 in
+    let s5 = apart64.apart m k x5 y5 p.batches_fit q.batches_fit s4.1 in
+    let s6 = apart64.apart n l (counted_states_bytes xs) (counted_states_bytes ys) p.acts_fit q.acts_fit s5.1 in
+    let s7 = apart16.apart (length xs) (length ys) (states_bytes xs) (states_bytes ys) (short (length xs) p.few) (short (length ys) q.few) s6.1 in
+    let states : xs ≡ ys = one_list IsState state_bytes states_apart xs ys p.each q.each s7.0 s7.1 in
+    ap (λ (z : ℕ). Checkpoint z t b c m n xs) s1.0 ∙ ap (λ (z : Tid). Checkpoint h z b c m n xs) s2.0 ∙ ap (λ (z : Bid). Checkpoint h u z c m n xs) s3.0
+    ∙ ap (λ (z : ℕ). Checkpoint h u d z m n xs) s4.0 ∙ ap (λ (z : ℕ). Checkpoint h u d e z n xs) s5.0 ∙ ap (λ (z : ℕ). Checkpoint h u d e k z xs) s6.0
+    ∙ ap (λ (zs : List State). Checkpoint h u d e k l zs) states
+
 -- the first byte
 pub other_tag : {P : Type 0} (a b : ℕ) (x y : List ℕ) → a < b → a ∷ x ≡ b ∷ y → P
 other_tag a b x y lt e = absurd (omega (arith, ap (λ (z : List ℕ). get_or z 0 0) e))
@@ -284,3 +310,20 @@ one_record (ActDone a m c f xs) (BatchCommit b) p q e = other_tag_down 8 4 _ _ (
 one_record (ActDone a m c f xs) (ActPrepare b n y) p q e = other_tag_down 8 5 _ _ (omega arith) e
 one_record (ActDone a m c f xs) (ActCommit b n d ys) p q e = other_tag_down 8 6 _ _ (omega arith) e
 one_record (ActDone a m c f xs) (BatchDone b ws) p q e = other_tag_down 8 7 _ _ (omega arith) e
+one_record (Checkpoint g t b c m n xs) (Checkpoint h u d e k l ys) p q same = one_checkpoint g h t u b d c e m k n l xs ys p q same
+one_record (Genesis l xs) (Checkpoint h i j o v w zs) p q e = other_tag 1 16 _ _ (omega arith) e
+one_record (BatchInfo a xs ts) (Checkpoint h i j o v w zs) p q e = other_tag 2 16 _ _ (omega arith) e
+one_record (BatchComplete a m x) (Checkpoint h i j o v w zs) p q e = other_tag 3 16 _ _ (omega arith) e
+one_record (BatchCommit a) (Checkpoint h i j o v w zs) p q e = other_tag 4 16 _ _ (omega arith) e
+one_record (ActPrepare a m x) (Checkpoint h i j o v w zs) p q e = other_tag 5 16 _ _ (omega arith) e
+one_record (ActCommit a m c xs) (Checkpoint h i j o v w zs) p q e = other_tag 6 16 _ _ (omega arith) e
+one_record (BatchDone a vs) (Checkpoint h i j o v w zs) p q e = other_tag 7 16 _ _ (omega arith) e
+one_record (ActDone a m c f xs) (Checkpoint h i j o v w zs) p q e = other_tag 8 16 _ _ (omega arith) e
+one_record (Checkpoint h i j o v w zs) (Genesis k ys) p q e = other_tag_down 16 1 _ _ (omega arith) e
+one_record (Checkpoint h i j o v w zs) (BatchInfo b ys us) p q e = other_tag_down 16 2 _ _ (omega arith) e
+one_record (Checkpoint h i j o v w zs) (BatchComplete b n y) p q e = other_tag_down 16 3 _ _ (omega arith) e
+one_record (Checkpoint h i j o v w zs) (BatchCommit b) p q e = other_tag_down 16 4 _ _ (omega arith) e
+one_record (Checkpoint h i j o v w zs) (ActPrepare b n y) p q e = other_tag_down 16 5 _ _ (omega arith) e
+one_record (Checkpoint h i j o v w zs) (ActCommit b n d ys) p q e = other_tag_down 16 6 _ _ (omega arith) e
+one_record (Checkpoint h i j o v w zs) (BatchDone b ws) p q e = other_tag_down 16 7 _ _ (omega arith) e
+one_record (Checkpoint h i j o v w zs) (ActDone b n d g ys) p q e = other_tag_down 16 8 _ _ (omega arith) e

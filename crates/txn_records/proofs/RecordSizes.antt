@@ -9,8 +9,8 @@ use Rattle.snap_base.specs.declared.ids.Tid.{Tid}
 use Rattle.snap_base.specs.declared.transactions.State.{State}
 use Rattle.txn_records.specs.declared.limits.TheConstants.{LONGEST_RECORD}
 use Rattle.txn_records.specs.declared.records.Record.{Record}
-use Rattle.txn_records.specs.declared.records.Record.TheVariants.{Genesis, BatchInfo, BatchComplete, BatchCommit, ActPrepare, ActCommit, BatchDone, ActDone}
-use Rattle.txn_records.specs.Records.{field_bytes, state_bytes, states_bytes, actors_bytes, tids_bytes, genesis_bytes, info_bytes, complete_bytes, prepare_bytes, act_bytes, done_bytes, act_done_bytes, values_bytes, record_bytes, IsState, IsGenesis, IsInfo, IsAct, IsDone, IsActDone, IsRecord}
+use Rattle.txn_records.specs.declared.records.Record.TheVariants.{Genesis, BatchInfo, BatchComplete, BatchCommit, ActPrepare, ActCommit, BatchDone, ActDone, Checkpoint}
+use Rattle.txn_records.specs.Records.{field_bytes, state_bytes, states_bytes, actors_bytes, tids_bytes, genesis_bytes, info_bytes, complete_bytes, prepare_bytes, act_bytes, done_bytes, act_done_bytes, checkpoint_bytes, values_bytes, record_bytes, IsState, IsGenesis, IsInfo, IsAct, IsDone, IsActDone, IsCheckpoint, IsRecord}
 use Rattle.txn_records.specs.Stops.{Stops}
 use Rattle.txn_records.specs.Texts.{RecordTexts}
 
@@ -40,7 +40,7 @@ pub tids_size : (ts : List Tid) → length (tids_bytes ts) ≡ 8 * length ts
 tids_size [] = refl
 tids_size (t ∷ ts) = omega (arith, tids_size ts)
 
--- ---- one record, of which the longest is a Genesis of 256 states
+-- ---- one record, of which the longest is a Checkpoint of 256 states
 
 abbrev pub IsSize : ℕ → Type 0
 IsSize n = (1 ≤ n) × (n ≤ LONGEST_RECORD)
@@ -89,6 +89,13 @@ act_done_size tid m c value actors is =
     let sum = length-append (field_bytes value) behind in
     (omega (arith, all), omega (arith, all, sum, two, field_size value, actors_size actors, is.few))
 
+checkpoint_size : (generation : ℕ) (next_tid : Tid) (next_bid : Bid) (next_c batches acts : ℕ) (states : List State) → IsCheckpoint generation next_tid next_bid next_c batches acts states
+    → IsSize (length (checkpoint_bytes generation next_tid next_bid next_c batches acts states))
+checkpoint_size generation next_tid next_bid next_c batches acts states is =
+    let all : length (checkpoint_bytes generation next_tid next_bid next_c batches acts states) ≡ 51 + length (states_bytes states) = omega arith in
+    let each = states_size states is.each in
+    (omega (arith, all), omega (arith, all, each, is.few))
+
 pub record_size : (r : Record) → IsRecord r → IsSize (length (record_bytes r))
 record_size (Genesis logs states) is = genesis_size logs states is
 record_size (BatchInfo bid actors tids) is = info_size bid actors tids is
@@ -98,6 +105,7 @@ record_size (ActPrepare tid actor state) is = prepare_size tid actor state is.is
 record_size (ActCommit tid m c actors) is = act_size tid m c actors is
 record_size (BatchDone bid values) is = done_size bid values is
 record_size (ActDone tid m c value actors) is = act_done_size tid m c value actors is
+record_size (Checkpoint generation next_tid next_bid next_c batches acts states) is = checkpoint_size generation next_tid next_bid next_c batches acts states is
 
 -- ---- what goes on as a record does is no longer than one
 

@@ -1,20 +1,20 @@
 -- The tag chooses the fields, and where they stop the record does.
-use Rattle.std.proofs.Common.{◌≡◌, ◌≢◌, ℕ, ◌≤◌, List, [], ◌∷◌, ◌++◌, length, take, get_or, refl, sym, ap, subst, ◌∙◌, arith, Result, Ok, Err, MatchResult}
+use Rattle.std.proofs.Common.{◌≡◌, ◌≢◌, ℕ, ◌≤◌, ◌⊎◌, inl, inr, List, [], ◌∷◌, ◌++◌, length, take, get_or, refl, sym, ap, subst, ◌∙◌, arith, Result, Ok, Err, MatchResult}
 use Rattle.std.specs.Int.{w16, w64, to_be_bytes}
 use Rattle.std.proofs.lemmas.List.{append-nil}
 use Rattle.snap_base.specs.declared.ids.ActorId.{ActorId}
 use Rattle.snap_base.specs.declared.ids.Bid.{Bid}
 use Rattle.snap_base.specs.declared.ids.Tid.{Tid}
 use Rattle.txn_records.specs.declared.records.Record.{Record}
-use Rattle.txn_records.specs.declared.records.Record.TheVariants.{Genesis, BatchInfo, BatchComplete, BatchCommit, ActPrepare, ActCommit, BatchDone, ActDone}
+use Rattle.txn_records.specs.declared.records.Record.TheVariants.{Genesis, BatchInfo, BatchComplete, BatchCommit, ActPrepare, ActCommit, BatchDone, ActDone, Checkpoint}
 use Rattle.txn_records.specs.declared.numbers.Stop.{Stop}
 use Rattle.txn_records.specs.declared.numbers.Stop.TheVariants.{Left, Memory}
-use Rattle.txn_records.specs.Records.{IsRecord, record_bytes, states_bytes, actors_bytes, tids_bytes, field_bytes, values_bytes, state_bytes}
+use Rattle.txn_records.specs.Records.{IsRecord, record_bytes, states_bytes, counted_states_bytes, so_far_bytes, actors_bytes, tids_bytes, field_bytes, values_bytes, state_bytes}
 use Rattle.txn_records.specs.Stops.{Stops, IsWhyUnread, Nil, Seq}
-use Rattle.txn_records.specs.Texts.{AreActors, Number, Field, GenesisTexts, InfoTexts, CompleteTexts, CommitTexts, PrepareTexts, ActTexts, DoneTexts, ActDoneTexts, RecordTexts}
+use Rattle.txn_records.specs.Texts.{AreActors, Number, CountedStates, Field, GenesisTexts, InfoTexts, CompleteTexts, CommitTexts, PrepareTexts, ActTexts, DoneTexts, ActDoneTexts, CheckpointTexts, RecordTexts}
 use Rattle.txn_records.proofs.OneRecord.{other_tag, other_tag_down}
 use Rattle.txn_records.proofs.Stopping.{stops_here}
-use Rattle.txn_records.proofs.Chains.{Some, ActCount, ActValue}
+use Rattle.txn_records.proofs.Chains.{Some, ActCount, ActValue, CheckpointActs, CheckpointBatches, CheckpointC, CheckpointBid}
 
 tag_stops : (T : List ℕ → Type 0) (t : ℕ) (rest : List ℕ) (left : ℕ) → ((f : List ℕ) → T f → RecordTexts (t ∷ f)) → ((f : List ℕ) → RecordTexts (t ∷ f) → T f) → Stops T rest left → Stops RecordTexts (t ∷ rest) left
 tag_stops T t rest left there back s = record {
@@ -65,6 +65,7 @@ genesis_out f (ActPrepare a m x, p, e) = other_tag 1 5 _ _ (omega arith) e
 genesis_out f (ActCommit a m c xs, p, e) = other_tag 1 6 _ _ (omega arith) e
 genesis_out f (BatchDone a vs, p, e) = other_tag 1 7 _ _ (omega arith) e
 genesis_out f (ActDone a m c v xs, p, e) = other_tag 1 8 _ _ (omega arith) e
+genesis_out f (Checkpoint g t b c m n xs, p, e) = other_tag 1 16 _ _ (omega arith) e
 
 pub info_in : (f : List ℕ) → InfoTexts f → RecordTexts (2 ∷ f)
 info_in f (b, g, p, (n, h, q, (xs, k, r, (m, i, v, (ts, j, w, nil, e5), e4), e3), e2), e1) =
@@ -103,6 +104,7 @@ info_out f (ActPrepare a m x, p, e) = other_tag 2 5 _ _ (omega arith) e
 info_out f (ActCommit a m c xs, p, e) = other_tag 2 6 _ _ (omega arith) e
 info_out f (BatchDone a vs, p, e) = other_tag 2 7 _ _ (omega arith) e
 info_out f (ActDone a m c v xs, p, e) = other_tag 2 8 _ _ (omega arith) e
+info_out f (Checkpoint g t b c m n xs, p, e) = other_tag 2 16 _ _ (omega arith) e
 
 pub complete_in : (f : List ℕ) → CompleteTexts f → RecordTexts (3 ∷ f)
 complete_in f (b, g, p, (a, h, q, (s, k, r, nil, e3), e2), e1) =
@@ -129,6 +131,7 @@ complete_out f (ActPrepare a m x, p, e) = other_tag 3 5 _ _ (omega arith) e
 complete_out f (ActCommit a m c xs, p, e) = other_tag 3 6 _ _ (omega arith) e
 complete_out f (BatchDone a vs, p, e) = other_tag 3 7 _ _ (omega arith) e
 complete_out f (ActDone a m c v xs, p, e) = other_tag 3 8 _ _ (omega arith) e
+complete_out f (Checkpoint g t b c m n xs, p, e) = other_tag 3 16 _ _ (omega arith) e
 
 pub commit_in : (f : List ℕ) → CommitTexts f → RecordTexts (4 ∷ f)
 commit_in f (b, g, p, nil, e) =
@@ -144,6 +147,7 @@ commit_out f (ActPrepare a m x, p, e) = other_tag 4 5 _ _ (omega arith) e
 commit_out f (ActCommit a m c xs, p, e) = other_tag 4 6 _ _ (omega arith) e
 commit_out f (BatchDone a vs, p, e) = other_tag 4 7 _ _ (omega arith) e
 commit_out f (ActDone a m c v xs, p, e) = other_tag 4 8 _ _ (omega arith) e
+commit_out f (Checkpoint g t b c m n xs, p, e) = other_tag 4 16 _ _ (omega arith) e
 
 pub prepare_in : (f : List ℕ) → PrepareTexts f → RecordTexts (5 ∷ f)
 prepare_in f (b, g, p, (a, h, q, (s, k, r, nil, e3), e2), e1) =
@@ -170,6 +174,7 @@ prepare_out f (ActPrepare t a s, p, e) = (
 prepare_out f (ActCommit a m c xs, p, e) = other_tag 5 6 _ _ (omega arith) e
 prepare_out f (BatchDone a vs, p, e) = other_tag 5 7 _ _ (omega arith) e
 prepare_out f (ActDone a m c v xs, p, e) = other_tag 5 8 _ _ (omega arith) e
+prepare_out f (Checkpoint g t b c m n xs, p, e) = other_tag 5 16 _ _ (omega arith) e
 
 pub act_in : (f : List ℕ) → ActTexts f → RecordTexts (6 ∷ f)
 act_in f (t, g, p, (b, h, q, (c, i, r, (n, j, v, (xs, k, w, nil, e5), e4), e3), e2), e1) =
@@ -200,6 +205,7 @@ act_out f (ActCommit t m c xs, p, e) =
     (t.0, xm, (omega arith, omega (arith, p.tid_fits)), (m.0, xc, (omega arith, omega (arith, p.m_fits)), numbered, refl), tail)
 act_out f (BatchDone a vs, p, e) = other_tag 6 7 _ _ (omega arith) e
 act_out f (ActDone a m c v xs, p, e) = other_tag 6 8 _ _ (omega arith) e
+act_out f (Checkpoint g t b c m n xs, p, e) = other_tag 6 16 _ _ (omega arith) e
 
 pub done_in : (f : List ℕ) → DoneTexts f → RecordTexts (7 ∷ f)
 done_in f (b, g, p, (n, h, q, (vs, k, r, nil, e3), e2), e1) =
@@ -223,6 +229,7 @@ done_out f (BatchDone b vs, p, e) =
     let tail : f ≡ to_be_bytes w64 b.0 ++ xc = tail_of 7 f (to_be_bytes w64 b.0 ++ xc) e in
     (b.0, xc, (omega arith, omega (arith, p.bid_fits)), (length vs, values_bytes vs, (p.some, p.few), (vs, [], (refl, p.each), refl, sym (append-nil (values_bytes vs))), refl), tail)
 done_out f (ActDone a m c v xs, p, e) = other_tag 7 8 _ _ (omega arith) e
+done_out f (Checkpoint g t b c m n xs, p, e) = other_tag 7 16 _ _ (omega arith) e
 
 pub act_done_in : (f : List ℕ) → ActDoneTexts f → RecordTexts (8 ∷ f)
 act_done_in f (t, g, p, (b, h, q, (c, i, r, (z, l, y, (n, j, v, (xs, k, w, nil, e6), e5), e4), e3), e2), e1) =
@@ -256,6 +263,60 @@ act_done_out f (ActDone t m c v xs, p, e) =
     let valued : Field (λ n. ActCount) xv = (v, xa, p.value_fits, (length xs, actors_bytes xs, (p.some, p.few), listed, refl), refl) in
     let numbered : Number (λ n. ActValue) xc = (c, xv, (omega arith, omega (arith, p.c_fits)), valued, refl) in
     (t.0, xm, (omega arith, omega (arith, p.tid_fits)), (m.0, xc, (omega arith, omega (arith, p.m_fits)), numbered, refl), tail)
+act_done_out f (Checkpoint g t b c m n xs, p, e) = other_tag 8 16 _ _ (omega arith) e
+
+pub checkpoint_in : (f : List ℕ) → CheckpointTexts f → RecordTexts (16 ∷ f)
+checkpoint_in f (g, f1, p, (t, f2, q, (b, f3, r, (c, f4, s, (m, f5, u, (n, f6, v, (k, h, w, (xs, l, z, nil, e8), e7), e6), e5), e4), e3), e2), e1) =
+    let tid : Tid = record { 0 = t } in
+    let bid : Bid = record { 0 = b } in
+    let whole : h ≡ states_bytes xs = e8 ∙ ap (λ (y : List ℕ). states_bytes xs ++ y) nil ∙ append-nil (states_bytes xs) in
+    let counted : f6 ≡ counted_states_bytes xs = e7 ∙ ap (λ (y : List ℕ). to_be_bytes w16 k ++ y) whole ∙ ap (λ (y : ℕ). to_be_bytes w16 y ++ states_bytes xs) (sym z.0) in
+    let so_far : f4 ≡ so_far_bytes m n xs = e5 ∙ ap (λ (y : List ℕ). to_be_bytes w64 m ++ y) (e6 ∙ ap (λ (y : List ℕ). to_be_bytes w64 n ++ y) counted) in
+    let behind_bid : f3 ≡ to_be_bytes w64 c ++ so_far_bytes m n xs = e4 ∙ ap (λ (y : List ℕ). to_be_bytes w64 c ++ y) so_far in
+    let behind_tid : f2 ≡ to_be_bytes w64 b ++ (to_be_bytes w64 c ++ so_far_bytes m n xs) = e3 ∙ ap (λ (y : List ℕ). to_be_bytes w64 b ++ y) behind_bid in
+    let behind_generation : f1 ≡ to_be_bytes w64 t ++ (to_be_bytes w64 b ++ (to_be_bytes w64 c ++ so_far_bytes m n xs)) = e2 ∙ ap (λ (y : List ℕ). to_be_bytes w64 t ++ y) behind_tid in (
+      Checkpoint g tid bid c m n xs,
+      record {
+        some_generation = p.0;
+        generation_fits = omega (arith, p);
+        some_tid = q.0;
+        tid_fits = omega (arith, q);
+        some_bid = r.0;
+        bid_fits = omega (arith, r);
+        some_c = s.0;
+        c_fits = omega (arith, s);
+        batches_fit = omega (arith, u);
+        acts_fit = omega (arith, v);
+        some = omega (arith, w, z.0);
+        few = omega (arith, w, z.0);
+        each = z.1;
+      },
+      ap (λ (y : List ℕ). 16 ∷ y) (e1 ∙ ap (λ (y : List ℕ). to_be_bytes w64 g ++ y) behind_generation),
+    )
+
+pub checkpoint_out : (f : List ℕ) → RecordTexts (16 ∷ f) → CheckpointTexts f
+checkpoint_out f (Genesis l xs, p, e) = other_tag_down 16 1 _ _ (omega arith) e
+checkpoint_out f (BatchInfo a xs ts, p, e) = other_tag_down 16 2 _ _ (omega arith) e
+checkpoint_out f (BatchComplete a m x, p, e) = other_tag_down 16 3 _ _ (omega arith) e
+checkpoint_out f (BatchCommit a, p, e) = other_tag_down 16 4 _ _ (omega arith) e
+checkpoint_out f (ActPrepare a m x, p, e) = other_tag_down 16 5 _ _ (omega arith) e
+checkpoint_out f (ActCommit a m c xs, p, e) = other_tag_down 16 6 _ _ (omega arith) e
+checkpoint_out f (BatchDone a vs, p, e) = other_tag_down 16 7 _ _ (omega arith) e
+checkpoint_out f (ActDone a m c v xs, p, e) = other_tag_down 16 8 _ _ (omega arith) e
+checkpoint_out f (Checkpoint g t b c m n xs, p, e) =
+    let f6 : List ℕ = counted_states_bytes xs in
+    let f5 : List ℕ = to_be_bytes w64 n ++ f6 in
+    let f4 : List ℕ = to_be_bytes w64 m ++ f5 in
+    let f3 : List ℕ = to_be_bytes w64 c ++ f4 in
+    let f2 : List ℕ = to_be_bytes w64 b.0 ++ f3 in
+    let f1 : List ℕ = to_be_bytes w64 t.0 ++ f2 in
+    let tail : f ≡ to_be_bytes w64 g ++ f1 = tail_of 16 f (to_be_bytes w64 g ++ f1) e in
+    let counted : CountedStates f6 = (length xs, states_bytes xs, (p.some, p.few), (xs, [], (refl, p.each), refl, sym (append-nil (states_bytes xs))), refl) in
+    let acts : CheckpointActs f5 = (n, f6, (omega arith, omega (arith, p.acts_fit)), counted, refl) in
+    let batches : CheckpointBatches f4 = (m, f5, (omega arith, omega (arith, p.batches_fit)), acts, refl) in
+    let numbered : CheckpointC f3 = (c, f4, (p.some_c, omega (arith, p.c_fits)), batches, refl) in
+    let told : CheckpointBid f2 = (b.0, f3, (p.some_bid, omega (arith, p.bid_fits)), numbered, refl) in
+    (g, f1, (p.some_generation, omega (arith, p.generation_fits)), (t.0, f2, (p.some_tid, omega (arith, p.tid_fits)), told, refl), tail)
 
 -- ---- no tag
 
@@ -263,17 +324,18 @@ some_record : Some RecordTexts
 some_record = let b : Bid = record { 0 = 0 } in (record_bytes (BatchCommit b), (BatchCommit b, record { bid_fits = omega arith }, refl))
 
 abbrev IsTag : ℕ → Type 0
-IsTag t = (1 ≤ t) × (t ≤ 8)
+IsTag t = ((1 ≤ t) × (t ≤ 8)) ⊎ (t ≡ 16)
 
 tag_of : (r : Record) (c : ℕ) (y : List ℕ) → record_bytes r ≡ c ∷ y → IsTag c
-tag_of (Genesis l xs) c y e = let h = ap (λ (z : List ℕ). get_or z 0 0) e in (omega (arith, h), omega (arith, h))
-tag_of (BatchInfo a xs ts) c y e = let h = ap (λ (z : List ℕ). get_or z 0 0) e in (omega (arith, h), omega (arith, h))
-tag_of (BatchComplete a m x) c y e = let h = ap (λ (z : List ℕ). get_or z 0 0) e in (omega (arith, h), omega (arith, h))
-tag_of (BatchCommit a) c y e = let h = ap (λ (z : List ℕ). get_or z 0 0) e in (omega (arith, h), omega (arith, h))
-tag_of (ActPrepare a m x) c y e = let h = ap (λ (z : List ℕ). get_or z 0 0) e in (omega (arith, h), omega (arith, h))
-tag_of (ActCommit a m n xs) c y e = let h = ap (λ (z : List ℕ). get_or z 0 0) e in (omega (arith, h), omega (arith, h))
-tag_of (BatchDone a vs) c y e = let h = ap (λ (z : List ℕ). get_or z 0 0) e in (omega (arith, h), omega (arith, h))
-tag_of (ActDone a m n v xs) c y e = let h = ap (λ (z : List ℕ). get_or z 0 0) e in (omega (arith, h), omega (arith, h))
+tag_of (Genesis l xs) c y e = let h = ap (λ (z : List ℕ). get_or z 0 0) e in inl (omega (arith, h), omega (arith, h))
+tag_of (BatchInfo a xs ts) c y e = let h = ap (λ (z : List ℕ). get_or z 0 0) e in inl (omega (arith, h), omega (arith, h))
+tag_of (BatchComplete a m x) c y e = let h = ap (λ (z : List ℕ). get_or z 0 0) e in inl (omega (arith, h), omega (arith, h))
+tag_of (BatchCommit a) c y e = let h = ap (λ (z : List ℕ). get_or z 0 0) e in inl (omega (arith, h), omega (arith, h))
+tag_of (ActPrepare a m x) c y e = let h = ap (λ (z : List ℕ). get_or z 0 0) e in inl (omega (arith, h), omega (arith, h))
+tag_of (ActCommit a m n xs) c y e = let h = ap (λ (z : List ℕ). get_or z 0 0) e in inl (omega (arith, h), omega (arith, h))
+tag_of (BatchDone a vs) c y e = let h = ap (λ (z : List ℕ). get_or z 0 0) e in inl (omega (arith, h), omega (arith, h))
+tag_of (ActDone a m n v xs) c y e = let h = ap (λ (z : List ℕ). get_or z 0 0) e in inl (omega (arith, h), omega (arith, h))
+tag_of (Checkpoint g t b n k l xs) c y e = let h = ap (λ (z : List ℕ). get_or z 0 0) e in inr (omega (arith, h))
 
 not_empty : (r : Record) → record_bytes r ≢ []
 not_empty (Genesis l xs) e = cc
@@ -284,12 +346,13 @@ not_empty (ActPrepare a m x) e = cc
 not_empty (ActCommit a m c xs) e = cc
 not_empty (BatchDone a vs) e = cc
 not_empty (ActDone a m c v xs) e = cc
+not_empty (Checkpoint g t b c m n xs) e = cc
 
 pub nothing_stops : (bytes : List ℕ) → length bytes ≡ 0 → Stops RecordTexts bytes 0
 nothing_stops [] e = stops_here RecordTexts [] some_record (λ f y p h. (refl, λ z. not_empty p.0 (sym p.2 ∙ h ∙ z)))
 nothing_stops (b ∷ x) e = absurd (omega (arith, e))
 
-pub no_tag_stops : (b : ℕ) (bytes rest : List ℕ) → bytes ≡ b ∷ rest → b ≢ 1 → b ≢ 2 → b ≢ 3 → b ≢ 4 → b ≢ 5 → b ≢ 6 → b ≢ 7 → b ≢ 8 → Stops RecordTexts bytes (length bytes)
-no_tag_stops b bytes rest e n1 n2 n3 n4 n5 n6 n7 n8 =
-    let here : Stops RecordTexts (b ∷ rest) (length (b ∷ rest)) = stops_here RecordTexts (b ∷ rest) some_record (λ f y p h. let t = tag_of p.0 b y (sym p.2 ∙ h) in absurd (omega (arith, t, n1, n2, n3, n4, n5, n6, n7, n8))) in
+pub no_tag_stops : (b : ℕ) (bytes rest : List ℕ) → bytes ≡ b ∷ rest → b ≢ 1 → b ≢ 2 → b ≢ 3 → b ≢ 4 → b ≢ 5 → b ≢ 6 → b ≢ 7 → b ≢ 8 → b ≢ 16 → Stops RecordTexts bytes (length bytes)
+no_tag_stops b bytes rest e n1 n2 n3 n4 n5 n6 n7 n8 n16 =
+    let here : Stops RecordTexts (b ∷ rest) (length (b ∷ rest)) = stops_here RecordTexts (b ∷ rest) some_record (λ f y p h. elim (tag_of p.0 b y (sym p.2 ∙ h)) [ inl t ↦ absurd (omega (arith, t, n1, n2, n3, n4, n5, n6, n7, n8)) | inr t ↦ absurd (n16 t) ]) in
     subst (λ (z : List ℕ). Stops RecordTexts z (length z)) (sym e) here

@@ -9,7 +9,7 @@ use Rattle.snap_base.specs.declared.ids.Bid.{Bid}
 use Rattle.snap_base.specs.declared.ids.Tid.{Tid}
 use Rattle.snap_base.specs.declared.transactions.State.{State}
 use Rattle.txn_records.specs.declared.records.Record.{Record}
-use Rattle.txn_records.specs.declared.records.Record.TheVariants.{Genesis, BatchInfo, BatchComplete, BatchCommit, ActPrepare, ActCommit, BatchDone, ActDone}
+use Rattle.txn_records.specs.declared.records.Record.TheVariants.{Genesis, BatchInfo, BatchComplete, BatchCommit, ActPrepare, ActCommit, BatchDone, ActDone, Checkpoint}
 use Rattle.txn_records.specs.declared.keys.Key.{Key}
 use Rattle.txn_records.specs.declared.keys.Key.TheVariants as keys
 
@@ -31,8 +31,11 @@ actors_bytes actors = flat_map (λ (a : ActorId). to_be_bytes w16 a.0) actors
 abbrev pub tids_bytes : List Tid → List ℕ
 tids_bytes tids = flat_map (λ (t : Tid). to_be_bytes w64 t.0) tids
 
+abbrev pub counted_states_bytes : List State → List ℕ
+counted_states_bytes states = to_be_bytes w16 (length states) ++ states_bytes states
+
 abbrev pub genesis_bytes : ℕ → List State → List ℕ
-genesis_bytes logs states = (1 ∷ logs ∷ []) ++ (to_be_bytes w16 (length states) ++ states_bytes states)
+genesis_bytes logs states = (1 ∷ logs ∷ []) ++ counted_states_bytes states
 
 abbrev pub info_bytes : Bid → List ActorId → List Tid → List ℕ
 info_bytes bid actors tids =
@@ -63,6 +66,18 @@ act_done_bytes tid m c value actors =
     (8 ∷ []) ++ (to_be_bytes w64 tid.0 ++ (to_be_bytes w64 m.0 ++ (to_be_bytes w64 c
     ++ (field_bytes value ++ (to_be_bytes w16 (length actors) ++ actors_bytes actors)))))
 
+-- the generation and the next numbers of a Checkpoint
+abbrev pub next_bytes : ℕ → Tid → Bid → ℕ → List ℕ
+next_bytes generation next_tid next_bid next_c =
+    (16 ∷ []) ++ (to_be_bytes w64 generation ++ (to_be_bytes w64 next_tid.0 ++ (to_be_bytes w64 next_bid.0 ++ to_be_bytes w64 next_c)))
+
+-- its counts and its states
+abbrev pub so_far_bytes : ℕ → ℕ → List State → List ℕ
+so_far_bytes batches acts states = to_be_bytes w64 batches ++ (to_be_bytes w64 acts ++ counted_states_bytes states)
+
+abbrev pub checkpoint_bytes : ℕ → Tid → Bid → ℕ → ℕ → ℕ → List State → List ℕ
+checkpoint_bytes generation next_tid next_bid next_c batches acts states = next_bytes generation next_tid next_bid next_c ++ so_far_bytes batches acts states
+
 abbrev pub record_bytes : Record → List ℕ
 record_bytes (Genesis logs states) = genesis_bytes logs states
 record_bytes (BatchInfo bid actors tids) = info_bytes bid actors tids
@@ -72,6 +87,7 @@ record_bytes (ActPrepare tid actor state) = prepare_bytes tid actor state
 record_bytes (ActCommit tid m c actors) = act_bytes tid m c actors
 record_bytes (BatchDone bid values) = done_bytes bid values
 record_bytes (ActDone tid m c value actors) = act_done_bytes tid m c value actors
+record_bytes (Checkpoint generation next_tid next_bid next_c batches acts states) = checkpoint_bytes generation next_tid next_bid next_c batches acts states
 
 -- ---- what has a spelling
 
@@ -135,6 +151,21 @@ pub record IsActDone (tid : Tid) (m : Bid) (c : ℕ) (value : ℤ) (actors : Lis
   pub few : length actors ≤ MOST_ACT_ACTORS
   pub ascend : Ascend 0 (2 ^ 16) (actor_numbers actors)
 
+pub record IsCheckpoint (generation : ℕ) (next_tid : Tid) (next_bid : Bid) (next_c batches acts : ℕ) (states : List State) : Type 0 where
+  pub some_generation : 1 ≤ generation
+  pub generation_fits : generation < 2 ^ 64
+  pub some_tid : 1 ≤ next_tid.0
+  pub tid_fits : next_tid.0 < 2 ^ 64
+  pub some_bid : 1 ≤ next_bid.0
+  pub bid_fits : next_bid.0 < 2 ^ 64
+  pub some_c : 1 ≤ next_c
+  pub c_fits : next_c < 2 ^ 64
+  pub batches_fit : batches < 2 ^ 64
+  pub acts_fit : acts < 2 ^ 64
+  pub some : 1 ≤ length states
+  pub few : length states ≤ MOST_LISTED
+  pub each : AllByRecursion IsState states
+
 abbrev pub IsRecord : Record → Type 0
 IsRecord (Genesis logs states) = IsGenesis logs states
 IsRecord (BatchInfo bid actors tids) = IsInfo bid actors tids
@@ -144,6 +175,7 @@ IsRecord (ActPrepare tid actor state) = IsPrepare tid actor state
 IsRecord (ActCommit tid m c actors) = IsAct tid m c actors
 IsRecord (BatchDone bid values) = IsDone bid values
 IsRecord (ActDone tid m c value actors) = IsActDone tid m c value actors
+IsRecord (Checkpoint generation next_tid next_bid next_c batches acts states) = IsCheckpoint generation next_tid next_bid next_c batches acts states
 
 -- ---- what a record is about
 
@@ -156,3 +188,4 @@ key (ActPrepare tid actor state) = keys.Prepare tid actor
 key (ActCommit tid m c actors) = keys.Act tid
 key (BatchDone bid values) = keys.Commit bid
 key (ActDone tid m c value actors) = keys.Act tid
+key (Checkpoint generation next_tid next_bid next_c batches acts states) = keys.Checkpoint

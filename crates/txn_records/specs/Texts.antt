@@ -35,14 +35,20 @@ FewCount G = Seq (Between 1 MOST_ACT_ACTORS) (to_be_bytes w16) G
 abbrev pub Number : (ℕ → List ℕ → Type 0) → List ℕ → Type 0
 Number G = Seq (Between 0 18446744073709551615) (to_be_bytes w64) G
 
+abbrev pub SomeNumber : (ℕ → List ℕ → Type 0) → List ℕ → Type 0
+SomeNumber G = Seq (Between 1 18446744073709551615) (to_be_bytes w64) G
+
 abbrev pub Actor : (ℕ → List ℕ → Type 0) → List ℕ → Type 0
 Actor G = Seq (Between 0 65535) (to_be_bytes w16) G
 
 abbrev pub Field : (ℤ → List ℕ → Type 0) → List ℕ → Type 0
 Field G = Seq (FitsSigned w64) field_bytes G
 
+abbrev pub CountedStates : List ℕ → Type 0
+CountedStates = Count (λ n. Seq (AreStates n) states_bytes (λ xs. Nil))
+
 abbrev pub GenesisTexts : List ℕ → Type 0
-GenesisTexts = Seq (Between 1 MOST_LOGS) one_byte (λ l. Count (λ n. Seq (AreStates n) states_bytes (λ xs. Nil)))
+GenesisTexts = Seq (Between 1 MOST_LOGS) one_byte (λ l. CountedStates)
 
 abbrev pub InfoTexts : List ℕ → Type 0
 InfoTexts = Number (λ b. Count (λ n. Seq (AreActors n) actors_bytes (λ xs. Count (λ m. Seq (AreTids m) tids_bytes (λ ys. Nil)))))
@@ -64,6 +70,9 @@ DoneTexts = Number (λ b. Count (λ n. Seq (AreValues n) values_bytes (λ vs. Ni
 
 abbrev pub ActDoneTexts : List ℕ → Type 0
 ActDoneTexts = Number (λ t. Number (λ m. Number (λ c. Field (λ v. FewCount (λ n. Seq (AreActors n) actors_bytes (λ xs. Nil))))))
+
+abbrev pub CheckpointTexts : List ℕ → Type 0
+CheckpointTexts = SomeNumber (λ g. SomeNumber (λ t. SomeNumber (λ b. SomeNumber (λ c. Number (λ m. Number (λ n. CountedStates))))))
 
 -- the bytes of records
 abbrev pub RecordTexts : List ℕ → Type 0

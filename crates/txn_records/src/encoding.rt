@@ -3,7 +3,7 @@ ghost use Rattle.std.specs.Prelude.{◌≡◌, ◌<◌, ◌≤◌, ◌^◌, ◌+
 ghost use Rattle.std.specs.Int.{to_be_bytes, w16, w64};
 ghost use Rattle.std.specs.List.{flat_map};
 ghost use Rattle.txn_records.specs.declared.limits.TheConstants.{MOST_LISTED};
-ghost use Rattle.txn_records.specs.Records.{record_bytes, field_bytes, state_bytes, states_bytes, actors_bytes, tids_bytes, genesis_bytes, info_bytes, complete_bytes, commit_bytes, prepare_bytes, act_bytes, done_bytes, act_done_bytes, IsRecord};
+ghost use Rattle.txn_records.specs.Records.{record_bytes, field_bytes, state_bytes, states_bytes, actors_bytes, tids_bytes, genesis_bytes, info_bytes, complete_bytes, commit_bytes, prepare_bytes, act_bytes, done_bytes, act_done_bytes, next_bytes, so_far_bytes, counted_states_bytes, IsRecord};
 
 use crate::Record;
 use snap_base::{ActorId, Bid, Memory, Sequence, State, Tid};
@@ -24,6 +24,8 @@ const ACT_COMMIT: u8 = 6;
 const BATCH_DONE: u8 = 7;
 
 const ACT_DONE: u8 = 8;
+
+const CHECKPOINT: u8 = 16;
 
 /// Room, in bytes, for the record of an actor's state, as most records are, and for those of small batches.
 const FIRST_ROOM: usize = 160;
@@ -55,6 +57,18 @@ pub fn encode(alloc: Global, r: &Record) -> Result<Vec<u8>, Memory>
             value,
             actors,
         } => { put_act_done(&mut out, *tid, *m, *c, *value, actors.as_slice())? }
+        Record::Checkpoint {
+            generation,
+            next_tid,
+            next_bid,
+            next_c,
+            batches,
+            acts,
+            states,
+        } => {
+            put_next(&mut out, *generation, *next_tid, *next_bid, *next_c)?;
+            put_so_far(&mut out, *batches, *acts, states.as_slice())?
+        }
     }
     Ok(out)
 }
@@ -64,8 +78,7 @@ fn put_genesis(out: &mut Vec<u8>, logs: u8, states: &[State]) -> Result<(), Memo
     ensures { OnOk result (out.new.items ≡ out.old.items ++ genesis_bytes logs states.now) }
 {
     out.extend_from_slice(&[GENESIS, logs])?;
-    put_count(out, states.len())?;
-    put_states(out, states)
+    put_counted_states(out, states)
 }
 
 fn put_info(out: &mut Vec<u8>, bid: Bid, actors: &[ActorId], tids: &[Tid]) -> Result<(), Memory>
@@ -170,6 +183,41 @@ fn put_outcome(
     put_u64(out, c)?;
     put_field(out, value)?;
     put_counted(out, actors)
+}
+
+/// A Checkpoint's tag, its generation and its next numbers.
+fn put_next(
+    out: &mut Vec<u8>,
+    generation: u64,
+    next_tid: Tid,
+    next_bid: Bid,
+    next_c: u64,
+) -> Result<(), Memory>
+    ensures { OnOk result (out.new.items ≡ out.old.items ++ next_bytes generation next_tid next_bid next_c) }
+{
+    out.push(CHECKPOINT)?;
+    put_u64(out, generation)?;
+    put_u64(out, next_tid.0)?;
+    put_u64(out, next_bid.0)?;
+    put_u64(out, next_c)
+}
+
+/// A Checkpoint's counts and its states.
+fn put_so_far(out: &mut Vec<u8>, batches: u64, acts: u64, states: &[State]) -> Result<(), Memory>
+    requires { length states.now ≤ MOST_LISTED }
+    ensures { OnOk result (out.new.items ≡ out.old.items ++ so_far_bytes batches acts states.now) }
+{
+    put_u64(out, batches)?;
+    put_u64(out, acts)?;
+    put_counted_states(out, states)
+}
+
+fn put_counted_states(out: &mut Vec<u8>, states: &[State]) -> Result<(), Memory>
+    requires { length states.now ≤ MOST_LISTED }
+    ensures { OnOk result (out.new.items ≡ out.old.items ++ counted_states_bytes states.now) }
+{
+    put_count(out, states.len())?;
+    put_states(out, states)
 }
 
 fn put_counted(out: &mut Vec<u8>, actors: &[ActorId]) -> Result<(), Memory>

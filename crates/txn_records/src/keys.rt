@@ -14,6 +14,7 @@ pub enum Key {
     Commit(Bid),
     Prepare(Tid, ActorId),
     Act(Tid),
+    Checkpoint,
 }
 
 /// What a record is about.
@@ -29,5 +30,6 @@ pub fn key_of(r: &Record) -> Key
         Record::ActCommit { tid, .. } => Key::Act(*tid),
         Record::BatchDone { bid, .. } => Key::Commit(*bid),
         Record::ActDone { tid, .. } => Key::Act(*tid),
+        Record::Checkpoint { .. } => Key::Checkpoint,
     }
 }

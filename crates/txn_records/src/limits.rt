@@ -1,7 +1,7 @@
 //! The limits of a record.
 
-/// The most bytes that a record has: those of a Genesis of `MOST_LISTED` states.
-pub const LONGEST_RECORD: usize = 32_772;
+/// The most bytes that a record has: those of a Checkpoint of `MOST_LISTED` states.
+pub const LONGEST_RECORD: usize = 32_819;
 
 /// The most logs that a Genesis counts; the least is 1.
 pub const MOST_LOGS: u8 = 4;

@@ -1,10 +1,11 @@
 //! Reading a record, kind by kind and field by field.
 ghost use Rattle.std.specs.Prelude.{◌≡◌, ℕ, ◌+◌, ◌<◌, ◌≤◌, ◌^◌, List, [], ◌∷◌, ◌++◌, length, take, FitsSigned, MatchResult};
+ghost use Rattle.std.specs.List.{AllByRecursion};
 ghost use Rattle.std.specs.Int.{to_be_bytes, w16, w64};
 ghost use Rattle.txn_records.specs.Stops.{IsWhyUnread, Any, Nil, Seq};
 ghost use Rattle.txn_records.specs.Numbers.{Between};
-ghost use Rattle.txn_records.specs.Records.{IsState, IsRecord, field_bytes, state_bytes, states_bytes, actors_bytes, tids_bytes, values_bytes, record_bytes};
-ghost use Rattle.txn_records.specs.Texts.{AreStates, AreActors, AreTids, AreValues, GenesisTexts, InfoTexts, CompleteTexts, CommitTexts, PrepareTexts, ActTexts, DoneTexts, ActDoneTexts, RecordTexts};
+ghost use Rattle.txn_records.specs.Records.{IsState, IsRecord, field_bytes, state_bytes, states_bytes, actors_bytes, tids_bytes, values_bytes, record_bytes, counted_states_bytes};
+ghost use Rattle.txn_records.specs.Texts.{AreStates, AreActors, AreTids, AreValues, GenesisTexts, InfoTexts, CompleteTexts, CommitTexts, PrepareTexts, ActTexts, DoneTexts, ActDoneTexts, CheckpointTexts, CountedStates, RecordTexts};
 
 use crate::numbers::{Stop, u8_between, u16_between, u64_between};
 use crate::{MOST_ACT_ACTORS, MOST_LISTED, MOST_LOGS, Record};
@@ -116,6 +117,16 @@ fn end_of(bytes: &[u8]) -> Result<(), Stop>
     }
 }
 
+/// The states behind their count, with nothing behind them.
+fn last_states_of(alloc: Global, bytes: &[u8]) -> Result<Sequence<State>, Stop>
+    ensures { MatchResult result (λ xs. Between 1 MOST_LISTED (length xs) × AllByRecursion IsState xs × (bytes.now ≡ counted_states_bytes xs)) (IsWhyUnread CountedStates bytes.now) }
+{
+    let (count, rest) = count_of(bytes)?;
+    let (states, rest) = states_of(alloc, rest, count)?;
+    end_of(rest)?;
+    Ok(states)
+}
+
 fn commit_of(bytes: &[u8]) -> Result<Record, Stop>
     ensures { MatchResult result (λ r. IsRecord r × (4 ∷ bytes.now ≡ record_bytes r)) (IsWhyUnread CommitTexts bytes.now) }
 {
@@ -158,9 +169,7 @@ fn genesis_of(alloc: Global, bytes: &[u8]) -> Result<Record, Stop>
     ensures { MatchResult result (λ r. IsRecord r × (1 ∷ bytes.now ≡ record_bytes r)) (IsWhyUnread GenesisTexts bytes.now) }
 {
     let (logs, rest) = u8_between(bytes, 1, MOST_LOGS)?;
-    let (count, rest) = count_of(rest)?;
-    let (states, rest) = states_of(alloc, rest, count)?;
-    end_of(rest)?;
+    let states = last_states_of(alloc, rest)?;
     Ok(Record::Genesis { logs, states })
 }
 
@@ -227,6 +236,27 @@ fn act_done_of(alloc: Global, bytes: &[u8]) -> Result<Record, Stop>
     })
 }
 
+fn checkpoint_of(alloc: Global, bytes: &[u8]) -> Result<Record, Stop>
+    ensures { MatchResult result (λ r. IsRecord r × (16 ∷ bytes.now ≡ record_bytes r)) (IsWhyUnread CheckpointTexts bytes.now) }
+{
+    let (generation, rest) = u64_between(bytes, 1, u64::MAX)?;
+    let (next_tid, rest) = u64_between(rest, 1, u64::MAX)?;
+    let (next_bid, rest) = u64_between(rest, 1, u64::MAX)?;
+    let (next_c, rest) = u64_between(rest, 1, u64::MAX)?;
+    let (batches, rest) = u64_between(rest, 0, u64::MAX)?;
+    let (acts, rest) = u64_between(rest, 0, u64::MAX)?;
+    let states = last_states_of(alloc, rest)?;
+    Ok(Record::Checkpoint {
+        generation,
+        next_tid: Tid(next_tid),
+        next_bid: Bid(next_bid),
+        next_c,
+        batches,
+        acts,
+        states,
+    })
+}
+
 /// The record that the bytes are.
 pub(crate) fn read(alloc: Global, bytes: &[u8]) -> Result<Record, Stop>
     ensures { MatchResult result (λ r. IsRecord r × (bytes.now ≡ record_bytes r)) (IsWhyUnread RecordTexts bytes.now) }
@@ -243,6 +273,7 @@ pub(crate) fn read(alloc: Global, bytes: &[u8]) -> Result<Record, Stop>
         6 => act_of(alloc, rest),
         7 => done_of(alloc, rest),
         8 => act_done_of(alloc, rest),
+        16 => checkpoint_of(alloc, rest),
         _ => Err(Stop::Left(bytes.len())),
     }
 }

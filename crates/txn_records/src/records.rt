@@ -54,4 +54,16 @@ pub enum Record {
         value: i64,
         actors: Sequence<ActorId>,
     },
+    /// What stands in place of the records of all that was committed before it: the generation of the logs that it begins,
+    /// at least 1, the next numbers, each at least 1, how many batches and undeclared transactions were committed, and the
+    /// state of each actor then, in the order of their numbers. It stands behind Genesis, in second place of the first log.
+    Checkpoint {
+        generation: u64,
+        next_tid: Tid,
+        next_bid: Bid,
+        next_c: u64,
+        batches: u64,
+        acts: u64,
+        states: Sequence<State>,
+    },
 }

@@ -1,5 +1,5 @@
 use Rattle.std.proofs.lemmas.Result.{err_from_is_err_and}
-use Rattle.txn_records.proofs.Chains.{behind_genesis_count, behind_genesis_logs, genesis_count, genesis_end, genesis_logs, genesis_states}
+use Rattle.txn_records.proofs.Chains.{behind_genesis_logs, genesis_logs}
 use Rattle.txn_records.proofs.reading.genesis_of.Goals as goal
 
 pub returns-in_err-logs : goal.returns-in_err-logs
@@ -7,17 +7,7 @@ returns-in_err-logs c =
     let p = err_from_is_err_and c.from_residual.result c.from_residual.ensures.1 in
     rw (p.1, p.2) (genesis_logs _ _ c.in_err-logs.ensures)
 
-pub returns-in_err-count : goal.returns-in_err-count
-returns-in_err-count c =
-    let p = err_from_is_err_and c.from_residual-in_err-count.result c.from_residual-in_err-count.ensures.1 in
-    rw (p.1, p.2) (behind_genesis_logs _ _ _ _ c.in_ok-logs.ensures (genesis_count _ _ c.in_err-count.ensures))
-
 pub returns-in_err-states : goal.returns-in_err-states
 returns-in_err-states c =
     let p = err_from_is_err_and c.from_residual-in_err-states.result c.from_residual-in_err-states.ensures.1 in
-    rw (p.1, p.2) (behind_genesis_logs _ _ _ _ c.in_ok-logs.ensures (behind_genesis_count _ _ _ _ c.in_ok-count.ensures (genesis_states _ _ _ c.in_err-states.ensures)))
-
-pub returns-in_err-end_of : goal.returns-in_err-end_of
-returns-in_err-end_of c =
-    let p = err_from_is_err_and c.from_residual-in_err-end_of.result c.from_residual-in_err-end_of.ensures.1 in
-    rw (p.1, p.2) (behind_genesis_logs _ _ _ _ c.in_ok-logs.ensures (behind_genesis_count _ _ _ _ c.in_ok-count.ensures (genesis_end _ _ _ _ _ c.in_ok-states.ensures c.in_err-end_of.ensures)))
+    rw (p.1, p.2) (behind_genesis_logs _ _ _ _ c.in_ok-logs.ensures c.in_err-states.ensures)

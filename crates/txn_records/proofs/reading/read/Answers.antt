@@ -1,6 +1,6 @@
 use Rattle.std.proofs.Common.{arith}
-use Rattle.txn_records.specs.Texts.{GenesisTexts, InfoTexts, CompleteTexts, CommitTexts, PrepareTexts, ActTexts, DoneTexts, ActDoneTexts}
-use Rattle.txn_records.proofs.Tags.{tagged, genesis_in, genesis_out, info_in, info_out, complete_in, complete_out, commit_in, commit_out, prepare_in, prepare_out, act_in, act_out, done_in, done_out, act_done_in, act_done_out, nothing_stops, no_tag_stops}
+use Rattle.txn_records.specs.Texts.{GenesisTexts, InfoTexts, CompleteTexts, CommitTexts, PrepareTexts, ActTexts, DoneTexts, ActDoneTexts, CheckpointTexts}
+use Rattle.txn_records.proofs.Tags.{tagged, genesis_in, genesis_out, info_in, info_out, complete_in, complete_out, commit_in, commit_out, prepare_in, prepare_out, act_in, act_out, done_in, done_out, act_done_in, act_done_out, checkpoint_in, checkpoint_out, nothing_stops, no_tag_stops}
 use Rattle.txn_records.proofs.reading.read.Goals as goal
 
 pub returns-in_default : goal.returns-in_default
@@ -30,5 +30,8 @@ returns-in-7 c = tagged DoneTexts 7 _ _ _ _ done_in done_out c.in-Some.ensures.c
 pub returns-in-8 : goal.returns-in-8
 returns-in-8 c = tagged ActDoneTexts 8 _ _ _ _ act_done_in act_done_out c.in-Some.ensures.cases.0 c.in-8.is c.act_done_of.ensures
 
+pub returns-in-16 : goal.returns-in-16
+returns-in-16 c = tagged CheckpointTexts 16 _ _ _ _ checkpoint_in checkpoint_out c.in-Some.ensures.cases.0 c.in-16.is c.checkpoint_of.ensures
+
 pub returns-in_default-tag : goal.returns-in_default-tag
-returns-in_default-tag c = no_tag_stops _ _ _ c.in-Some.ensures.cases.0 (λ e. omega arith) (λ e. omega arith) (λ e. omega arith) (λ e. omega arith) (λ e. omega arith) (λ e. omega arith) (λ e. omega arith) (λ e. omega arith)
+returns-in_default-tag c = no_tag_stops _ _ _ c.in-Some.ensures.cases.0 (λ e. omega arith) (λ e. omega arith) (λ e. omega arith) (λ e. omega arith) (λ e. omega arith) (λ e. omega arith) (λ e. omega arith) (λ e. omega arith) (λ e. omega arith)
