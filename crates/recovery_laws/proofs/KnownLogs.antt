@@ -14,7 +14,7 @@ use Rattle.protocol_laws.specs.Told.{has_number}
 use Rattle.protocol_records.specs.Crash.{is_in, BatchIsWhole, ActIsWhole}
 use Rattle.protocol_records.specs.RecordLaws.{RecordKey, has_key, TellsOf}
 use Rattle.txn_records.specs.declared.records.Record.{Record}
-use Rattle.txn_records.specs.declared.records.Record.TheVariants.{Genesis, BatchInfo, BatchComplete, BatchCommit, ActPrepare, ActCommit, BatchDone, ActDone}
+use Rattle.txn_records.specs.declared.records.Record.TheVariants.{Genesis, BatchInfo, BatchComplete, BatchCommit, ActPrepare, ActCommit, BatchDone, ActDone, Checkpoint}
 use Rattle.txn_records.specs.declared.keys.Key.TheVariants as keys
 use Rattle.txn_records.specs.Records.{key}
 use Rattle.snap_recover.specs.declared.openings.Opening.{Opening}
@@ -24,7 +24,7 @@ use Rattle.snap_recover.proofs.Lists.{all_contains, contains_unmap}
 use Rattle.snap_recover.proofs.Growing.{has_left, has_right, has_cases}
 use Rattle.snap_recover.proofs.Greatest.{each_below}
 use Rattle.log_set.specs.Told.{bid_of, tid_of, all_told}
-use Rattle.recovery_laws.specs.Grown.{grown, BeginsWith}
+use Rattle.recovery_laws.specs.Grown.{grown, BeginsFrom}
 use Rattle.recovery_laws.proofs.WrittenLists.{has_commit, commit_has, has_act, act_has, act_tids, act_from, batch_bids, commit_from, grown_length, grown_at}
 
 -- no two of them have one tid
@@ -38,7 +38,7 @@ pub record Known {C : Type 0} (w : Fixed C) (earlier : List (List Record)) (o : 
   pub some : 1 ≤ w.text.logs
   pub some_bid : 1 ≤ w.text.opening.next_bid
   pub before : IsRecovered earlier o
-  pub begins : BeginsWith w.text o
+  pub begins : BeginsFrom w.text o
   pub whole : (k : ℕ) → is_in w.text.logs logs (OfBatch k) ≡ true → BatchIsWhole w.text.logs logs k
   pub whole_acts : (t : ℕ) → is_in w.text.logs logs (OfAct t) ≡ true → ActIsWhole w.text.logs logs t
   pub tells : (l : ℕ) → AllByRecursion (TellsOf s.desk.batches s.book.acts) (logs l)
@@ -78,6 +78,7 @@ commit_low (ActPrepare t a st) b n e h = absurd (cc e)
 commit_low (ActCommit t m c actors) b n e h = absurd (cc e)
 commit_low (BatchDone k v) b n e h = let q : k ≡ b = cc e in subst (λ z. z.0 < n) q h.0
 commit_low (ActDone t m c v actors) b n e h = absurd (cc e)
+commit_low (Checkpoint g t k c x y ss) b n e h = absurd (cc e)
 
 pub in_old : {C : Type 0} (w : Fixed C) (earlier : List (List Record)) (o : Opening) (s : Machine C) (logs : ℕ → List LogRecord) (b : Bid) → Known w earlier o s logs → IsIn earlier b → b.0 < w.text.opening.next_bid
 in_old w earlier o s logs b g h = let r = contains_unmap key (log_of earlier b.0) (keys.Commit b) h in commit_low r.0 b w.text.opening.next_bid r.2 (all_contains (λ r. AllByRecursion (λ x. x < w.text.opening.next_bid) (bids_in r)) (log_of earlier b.0) r.0 (old_low w earlier o s logs b.0 g) r.1)
@@ -112,6 +113,7 @@ act_low (ActPrepare u a st) t n e h = absurd (cc e)
 act_low (ActCommit u m c actors) t n e h = let q : u ≡ t = cc e in subst (λ z. z.0 < n) q h.0
 act_low (BatchDone k v) t n e h = absurd (cc e)
 act_low (ActDone u m c v actors) t n e h = let q : u ≡ t = cc e in subst (λ z. z.0 < n) q h.0
+act_low (Checkpoint g u k c x y ss) t n e h = absurd (cc e)
 
 pub act_old : {C : Type 0} (w : Fixed C) (earlier : List (List Record)) (o : Opening) (s : Machine C) (logs : ℕ → List LogRecord) (t : Tid) → Known w earlier o s logs → IsActIn earlier t → t.0 < w.text.opening.next_tid
 act_old w earlier o s logs t g h = let r = contains_unmap key (log_of earlier t.0) (keys.Act t) h in act_low r.0 t w.text.opening.next_tid r.2 (all_contains (λ r. AllByRecursion (λ x. x < w.text.opening.next_tid) (tids_in r)) (log_of earlier t.0) r.0 (old_acts_low w earlier o s logs t.0 g) r.1)

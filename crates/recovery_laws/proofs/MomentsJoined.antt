@@ -29,7 +29,7 @@ use Rattle.snap_recover.specs.declared.openings.Opening.{Opening}
 use Rattle.snap_recover.specs.declared.ranges.TheConstants.{GREATEST_NUMBER}
 use Rattle.snap_recover.specs.Opening.{IsInRange, IsRecovered}
 use Rattle.log_set.specs.Told.{told, all_told}
-use Rattle.recovery_laws.specs.Grown.{BeginsWith}
+use Rattle.recovery_laws.specs.Grown.{BeginsFrom}
 use Rattle.protocol_records.specs.SeveralRuns.{recovered_from}
 use Rattle.protocol_theorems.specs.Sizes.{SizesHold}
 use Rattle.protocol_theorems.proofs.quiet.SubPlaces.{count_join}
@@ -164,7 +164,7 @@ all_range w s (r ∷ rs) n d f t = (record_range w s r n d f t.0, all_range w s 
 
 -- ---- all of it
 
-pub known : {C : Type 0} (w : Fixed C) (finish : C → List State → Alone) (es : List Event) (earlier : List (List Record)) (o : Opening) (s : Machine C) (h : History) (kept : ℕ → ℕ) → IsText w.text → length earlier ≡ w.text.logs → IsRecovered earlier o → BeginsWith w.text o
+pub known : {C : Type 0} (w : Fixed C) (finish : C → List State → Alone) (es : List Event) (earlier : List (List Record)) (o : Opening) (s : Machine C) (h : History) (kept : ℕ → ℕ) → IsText w.text → length earlier ≡ w.text.logs → IsRecovered earlier o → BeginsFrom w.text o
     → CrashHolds w finish es s h (left_in s kept) → RecordsAddedOnce w finish s h → RecordsTell w finish s h → NumbersInRange w s → NumbersDrawnOnce w s → PairsStand w s → SizesHold w s → ActsDrawn w s → Known w earlier o s (left_in s kept)
 known w finish es earlier o s h kept t many before begins c once tells range drawn pairs sizes acts =
     let room : HaveRoom s = record { tids = omega (arith, t.tids_fit, t.few_txs, sizes.next_tid, sizes.next_tx); bids = omega (arith, t.bids_fit, t.few_txs, sizes.next_bid, sizes.next_tx); cs = omega (arith, t.cs_fit, t.few_txs, sizes.next_c, sizes.next_tx) } in

@@ -11,7 +11,7 @@ use Rattle.protocol.specs.Parts.{OfBatch, OfAct, Machine}
 use Rattle.protocol_records.specs.Crash.{is_in, recovered_state}
 use Rattle.protocol_records.specs.SeveralRuns.{recovered_from}
 use Rattle.txn_records.specs.declared.records.Record.{Record}
-use Rattle.txn_records.specs.declared.records.Record.TheVariants.{Genesis, BatchInfo, BatchComplete, BatchCommit, ActPrepare, ActCommit, BatchDone, ActDone}
+use Rattle.txn_records.specs.declared.records.Record.TheVariants.{Genesis, BatchInfo, BatchComplete, BatchCommit, ActPrepare, ActCommit, BatchDone, ActDone, Checkpoint}
 use Rattle.snap_recover.specs.declared.openings.Opening.{Opening}
 use Rattle.snap_recover.specs.Logs.{log_of, tids_in, bids_in}
 use Rattle.snap_recover.specs.Opening.{Counts, IsStateOf}
@@ -43,6 +43,7 @@ agree_old {C} w earlier o s logs a (r ∷ rs) g h k = (one r h.0 k.0, agree_old 
     one (ActCommit t m c actors) l k = ((λ q. q), (λ q. q))
     one (BatchDone b v) l k = ((λ q. q), (λ q. q))
     one (ActDone t m c v actors) l k = ((λ q. q), (λ q. q))
+    one (Checkpoint g t b c m n states) l k = ((λ q. q), (λ q. q))
 
 counted_new : {C : Type 0} (w : Fixed C) (earlier : List (List Record)) (o : Opening) (s : Machine C) (logs : ℕ → List LogRecord) (a : ℕ) (rs : List LogRecord) → Known w earlier o s logs → AllByRecursion (λ r. AllByRecursion (λ n. w.text.opening.next_bid ≤ n) (batch_bids r)) rs → AllByRecursion (λ r. AllByRecursion (λ n. w.text.opening.next_tid ≤ n) (act_tids r)) rs
     → AllByRecursion (Counted (Counts (grown earlier logs) a) w.text.logs logs a) rs

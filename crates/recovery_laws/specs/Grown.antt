@@ -1,5 +1,5 @@
 -- The records of a run as they are written, behind those of earlier runs, and the opening to which they recover.
-use Rattle.std.specs.Prelude.{◌≡◌, ℕ, ℤ, ◌+◌, ◌==◌, nat_lt, nat_le, Bool, ◌&&◌, ◌||◌, if◌then◌else◌, Option, Some, None, List, [], ◌∷◌, ◌++◌, map}
+use Rattle.std.specs.Prelude.{◌≡◌, ℕ, ℤ, ◌+◌, ◌≤◌, ◌==◌, nat_lt, nat_le, Bool, ◌&&◌, ◌||◌, if◌then◌else◌, Option, Some, None, List, [], ◌∷◌, ◌++◌, map}
 use Rattle.snap_base.specs.declared.ids.Tid.{Tid}
 use Rattle.snap_base.specs.declared.transactions.TxResult.{TxResult}
 use Rattle.snap_base.specs.declared.transactions.TxResult.TheVariants.{Value, Fail}
@@ -18,6 +18,8 @@ use Rattle.txn_records.specs.declared.records.Record.{Record}
 use Rattle.snap_recover.specs.declared.openings.Kept.{Kept}
 use Rattle.snap_recover.specs.declared.openings.Kept.TheVariants as kept
 use Rattle.snap_recover.specs.declared.openings.Opening.{Opening}
+use Rattle.snap_recover.specs.Logs.{tids_in, bids_in, commits_in}
+use Rattle.snap_recover.specs.Opening.{next_of}
 
 -- each log from this number on has behind its records those of the run
 abbrev pub grown_from : ℕ → List (List Record) → (ℕ → List LogRecord) → List (List Record)
@@ -105,6 +107,13 @@ pub record BeginsWith (w : Text) (o : Opening) : Type 0 where
   pub next_bid : o.next_bid.0 ≡ w.opening.next_bid
   pub next_c : o.next_c ≡ w.opening.next_c
 
+-- the run begins with the states to which its logs recovered, and with numbers that are no smaller: a checkpoint may tell greater ones
+pub record BeginsFrom (w : Text) (o : Opening) : Type 0 where
+  pub states : o.states ≡ w.opening.states
+  pub next_tid : o.next_tid.0 ≤ w.opening.next_tid
+  pub next_bid : o.next_bid.0 ≤ w.opening.next_bid
+  pub next_c : o.next_c ≤ w.opening.next_c
+
 -- The opening to which the logs recover: the states are those of the members, what is in stands behind what earlier runs
 -- committed, and the next numbers are above all.
 abbrev pub opening_after : {C : Type 0} → Fixed C → Opening → Machine C → (ℕ → List LogRecord) → Opening
@@ -114,4 +123,14 @@ opening_after w o s logs = record {
   next_tid = tid_of (next_tid_of w logs);
   next_bid = bid_of (next_bid_of w logs);
   next_c = next_c_of w logs;
+}
+
+-- The same with just the numbers that the records tell, which may be below those with which the run began.
+abbrev pub opening_found : {C : Type 0} → Fixed C → List (List Record) → Opening → Machine C → (ℕ → List LogRecord) → Opening
+opening_found w earlier o s logs = record {
+  states = recovered_from w.text.logs logs 0 w.text.opening.states;
+  committed = o.committed ++ all_in w.text.logs logs s;
+  next_tid = tid_of (next_of tids_in (grown earlier logs));
+  next_bid = bid_of (next_of bids_in (grown earlier logs));
+  next_c = next_of commits_in (grown earlier logs);
 }

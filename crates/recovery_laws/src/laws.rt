@@ -5,7 +5,7 @@ ghost use Rattle.txn_records.specs.declared.records.Record.{Record};
 ghost use Rattle.snap_recover.specs.declared.openings.Opening.{Opening};
 ghost use Rattle.snap_recover.specs.Opening.{IsRecovered};
 ghost use Rattle.protocol_records.specs.SeveralRuns.{CutRun};
-ghost use Rattle.recovery_laws.specs.Joined.{AtEveryMomentOnLogs, GoOnLogs, RecoverAgain, RecoversToMembers, ValuesAreResults};
+ghost use Rattle.recovery_laws.specs.Joined.{AtEveryMomentFrom, AtEveryMomentOnLogs, GoOnLogs, RecoverAgain, RecoversFrom, RecoversToMembers, ValuesAreResults};
 
 use protocol_laws::{
     committed_are_those_with_places, numbers_are_drawn_once, numbers_are_in_range,
@@ -24,6 +24,24 @@ use snap_recover::refused_is_not_recovered;
 /// members, in the order of their places, each with the result that it has alone, and the next numbers are above all.
 pub fn logs_recover_to_the_members<C>()
     ensures { AtEveryMomentOnLogs (RecoversToMembers {C = C}) }
+{
+    recovered_transactions_are_in_order::<C>();
+    records_are_added_once::<C>();
+    records_tell_what_is::<C>();
+    numbers_are_in_range::<C>();
+    numbers_are_drawn_once::<C>();
+    pairs_carry_before_numbers::<C>();
+    sizes_hold::<C>();
+    next_numbers_are_above_all::<C>();
+    committed_are_those_with_places::<C>();
+    places_are_drawn::<C>();
+    refused_is_not_recovered();
+}
+
+/// The same where the run began with greater numbers than its logs tell, as it does behind a checkpoint. Recovery gives the
+/// numbers that the records tell, and the run's next numbers are these or the ones with which it began.
+pub fn logs_recover_from_greater_numbers<C>()
+    ensures { AtEveryMomentFrom (RecoversFrom {C = C}) }
 {
     recovered_transactions_are_in_order::<C>();
     records_are_added_once::<C>();

@@ -5,4 +5,7 @@
 
 mod laws;
 
-pub use laws::{logs_recover_behind_each_run, logs_recover_to_the_members, values_are_results};
+pub use laws::{
+    logs_recover_behind_each_run, logs_recover_from_greater_numbers, logs_recover_to_the_members,
+    values_are_results,
+};
