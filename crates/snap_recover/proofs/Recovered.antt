@@ -5,7 +5,7 @@ use Rattle.std.specs.List.{AllByRecursion, AllZip, enumerate_from}
 use Rattle.snap_base.specs.declared.transactions.State.{State}
 use Rattle.snap_base.proofs.Lists.{all_join}
 use Rattle.txn_records.specs.declared.records.Record.{Record}
-use Rattle.txn_records.specs.declared.records.Record.TheVariants.{Genesis, BatchInfo, BatchComplete, BatchCommit, ActPrepare, ActCommit, BatchDone, ActDone}
+use Rattle.txn_records.specs.declared.records.Record.TheVariants.{Genesis, BatchInfo, BatchComplete, BatchCommit, ActPrepare, ActCommit, BatchDone, ActDone, Checkpoint}
 use Rattle.txn_records.specs.Records.{IsState, IsRecord, IsGenesis}
 use Rattle.snap_recover.specs.declared.openings.Opening.{Opening}
 use Rattle.snap_recover.specs.Logs.{all_of, is_genesis, states_in}
@@ -35,6 +35,7 @@ told_is (ActPrepare u a t) s is e = let same : t ≡ s = cc in subst IsState sam
 told_is (ActCommit u m c a) s is e = absurd (cc)
 told_is (BatchDone b v) s is e = absurd (cc)
 told_is (ActDone u m c v a) s is e = absurd (cc)
+told_is (Checkpoint v x y z p q ss) s is e = absurd (cc)
 
 state_is : (logs : List (List Record)) (a : ℕ) (first s : State) → AllByRecursion (AllByRecursion IsRecord) logs → IsState first → IsStateOf logs a first s → IsState s
 state_is logs a first s are is (inl (r, told, last)) =

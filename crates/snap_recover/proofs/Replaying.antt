@@ -8,7 +8,7 @@ use Rattle.std.specs.BTreeSet.{BTreeSet}
 use Rattle.snap_base.specs.declared.transactions.State.{State}
 use Rattle.snap_base.proofs.Lists.{all_front, all_back}
 use Rattle.txn_records.specs.declared.records.Record.{Record}
-use Rattle.txn_records.specs.declared.records.Record.TheVariants.{Genesis, BatchInfo, BatchComplete, BatchCommit, ActPrepare, ActCommit, BatchDone, ActDone}
+use Rattle.txn_records.specs.declared.records.Record.TheVariants.{Genesis, BatchInfo, BatchComplete, BatchCommit, ActPrepare, ActCommit, BatchDone, ActDone, Checkpoint}
 use Rattle.snap_recover.specs.declared.kinds.Kind.TheVariants as kinds
 use Rattle.snap_recover.specs.Logs.{all_of, states_in}
 use Rattle.snap_recover.specs.Opening.{IsInRange, Counts, IsStateOf, AreStatesOf}
@@ -39,6 +39,7 @@ tells_one Bs As a b (ActPrepare n x s) t u = sym t.0 ∙ u.0
 tells_one Bs As a b (ActCommit n m c x) t u = absurd t
 tells_one Bs As a b (BatchDone k v) t u = absurd t
 tells_one Bs As a b (ActDone n m c v x) t u = absurd t
+tells_one Bs As a b (Checkpoint v x y z p q ss) t u = absurd t
 
 one_told : (log logs : ℕ) (Bs As : ℕ → Type 0) (rs : List Record) (r : Record) (k : ℕ) (s : State) (old mid : List State) → states_in r ≡ s ∷ [] → RecordTellsState Bs As k r → k % logs ≡ log → k < length old
     → Replays log logs Bs As rs old mid → Replays log logs Bs As (rs ++ r ∷ []) old (set mid k s)
@@ -73,6 +74,7 @@ tells_below n Bs As k (ActPrepare u x s) t h = let low : x.0 < n = h.actors_belo
 tells_below n Bs As k (ActCommit u m c x) t h = absurd t
 tells_below n Bs As k (BatchDone b v) t h = absurd t
 tells_below n Bs As k (ActDone u m c v x) t h = absurd t
+tells_below n Bs As k (Checkpoint v x y z p q ss) t h = absurd t
 
 pub told_below : (n : ℕ) (Bs As : ℕ → Type 0) (rs : List Record) (i : ℕ) (r : Record) (k : ℕ) → i < length rs → r ≡ get_or rs i r → RecordTellsState Bs As k r
     → AllByRecursion (IsInRange n) rs → k < n
@@ -99,6 +101,7 @@ tells_counts logs batches acts a (ActPrepare u x s) h g = (λ t. (t.0, (g u.0).0
 tells_counts logs batches acts a (ActCommit u m c x) h g = (λ t. t, λ t. t)
 tells_counts logs batches acts a (BatchDone b v) h g = (λ t. t, λ t. t)
 tells_counts logs batches acts a (ActDone u m c v x) h g = (λ t. t, λ t. t)
+tells_counts logs batches acts a (Checkpoint v x y z p q ss) h g = (λ t. t, λ t. t)
 
 pub states_through : (logs : List (List Record)) (i : ℕ) (rs : List Record) (batches acts : BTreeSet ℕ) (first old new : List State) → i < length logs → rs ≡ get_or logs i rs → HasCommitted kinds.Batch logs batches → HasCommitted kinds.Act logs acts
     → Replays i (length logs) (In batches) (In acts) rs old new → StatesThrough logs i first old → StatesThrough logs (i + 1) first new

@@ -3,7 +3,7 @@
 use Rattle.std.specs.Prelude.{◌≡◌, ℕ, ℤ, ◌%◌, Bool, true, false, List, [], ◌∷◌, ◌++◌, length, map, filter, slice_index_or, Contains}
 use Rattle.std.specs.List.{AllByRecursion, flat_map}
 use Rattle.txn_records.specs.declared.records.Record.{Record}
-use Rattle.txn_records.specs.declared.records.Record.TheVariants.{Genesis, BatchInfo, BatchComplete, BatchCommit, ActPrepare, ActCommit, BatchDone, ActDone}
+use Rattle.txn_records.specs.declared.records.Record.TheVariants.{Genesis, BatchInfo, BatchComplete, BatchCommit, ActPrepare, ActCommit, BatchDone, ActDone, Checkpoint}
 use Rattle.snap_base.specs.declared.transactions.State.{State}
 use Rattle.txn_records.specs.declared.keys.Key.{Key}
 use Rattle.txn_records.specs.Records.{key, actor_numbers, tid_numbers}
@@ -35,6 +35,7 @@ actors_in (ActPrepare tid actor state) = actor.0 ∷ []
 actors_in (ActCommit tid m c actors) = actor_numbers actors
 actors_in (BatchDone bid values) = []
 actors_in (ActDone tid m c value actors) = actor_numbers actors
+actors_in (Checkpoint generation next_tid next_bid next_c batches acts states) = []
 
 abbrev pub tids_in : Record → List ℕ
 tids_in (Genesis logs states) = []
@@ -45,6 +46,7 @@ tids_in (ActPrepare tid actor state) = tid.0 ∷ []
 tids_in (ActCommit tid m c actors) = tid.0 ∷ []
 tids_in (BatchDone bid values) = []
 tids_in (ActDone tid m c value actors) = tid.0 ∷ []
+tids_in (Checkpoint generation next_tid next_bid next_c batches acts states) = []
 
 abbrev pub bids_in : Record → List ℕ
 bids_in (Genesis logs states) = []
@@ -55,6 +57,7 @@ bids_in (ActPrepare tid actor state) = []
 bids_in (ActCommit tid m c actors) = m.0 ∷ []
 bids_in (BatchDone bid values) = bid.0 ∷ []
 bids_in (ActDone tid m c value actors) = m.0 ∷ []
+bids_in (Checkpoint generation next_tid next_bid next_c batches acts states) = []
 
 -- commit numbers
 abbrev pub commits_in : Record → List ℕ
@@ -66,6 +69,7 @@ commits_in (ActPrepare tid actor state) = []
 commits_in (ActCommit tid m c actors) = c ∷ []
 commits_in (BatchDone bid values) = []
 commits_in (ActDone tid m c value actors) = c ∷ []
+commits_in (Checkpoint generation next_tid next_bid next_c batches acts states) = []
 
 -- the states of the one actor that the record is of
 abbrev pub states_in : Record → List State
@@ -77,6 +81,7 @@ states_in (ActPrepare tid actor state) = state ∷ []
 states_in (ActCommit tid m c actors) = []
 states_in (BatchDone bid values) = []
 states_in (ActDone tid m c value actors) = []
+states_in (Checkpoint generation next_tid next_bid next_c batches acts states) = []
 
 -- the values that the commit of a batch tells; format 1 tells none
 abbrev pub values_in : Record → List ℤ
@@ -88,6 +93,7 @@ values_in (ActPrepare tid actor state) = []
 values_in (ActCommit tid m c actors) = []
 values_in (BatchDone bid values) = values
 values_in (ActDone tid m c value actors) = []
+values_in (Checkpoint generation next_tid next_bid next_c batches acts states) = []
 
 abbrev pub is_genesis : Record → Bool
 is_genesis (Genesis logs states) = true
@@ -98,6 +104,7 @@ is_genesis (ActPrepare tid actor state) = false
 is_genesis (ActCommit tid m c actors) = false
 is_genesis (BatchDone bid values) = false
 is_genesis (ActDone tid m c value actors) = false
+is_genesis (Checkpoint generation next_tid next_bid next_c batches acts states) = false
 
 abbrev pub geneses : List (List Record) → List Record
 geneses logs = filter is_genesis (all_of logs)

@@ -8,7 +8,7 @@ use Rattle.snap_base.specs.declared.ids.Bid.{Bid}
 use Rattle.snap_base.specs.declared.ids.Tid.{Tid}
 use Rattle.snap_base.specs.declared.transactions.State.{State}
 use Rattle.txn_records.specs.declared.records.Record.{Record}
-use Rattle.txn_records.specs.declared.records.Record.TheVariants.{Genesis, BatchInfo, BatchComplete, BatchCommit, ActPrepare, ActCommit, BatchDone, ActDone}
+use Rattle.txn_records.specs.declared.records.Record.TheVariants.{Genesis, BatchInfo, BatchComplete, BatchCommit, ActPrepare, ActCommit, BatchDone, ActDone, Checkpoint}
 use Rattle.txn_records.specs.declared.keys.Key.{Key}
 use Rattle.txn_records.specs.declared.keys.Key.TheVariants as keys
 use Rattle.txn_records.specs.Records.{key}
@@ -42,6 +42,7 @@ FitsTids (ActPrepare tid actor state) tids = ⊤
 FitsTids (ActCommit tid m c actors) tids = ⊤
 FitsTids (BatchDone bid values) tids = length values ≡ length tids
 FitsTids (ActDone tid m c value actors) tids = ⊤
+FitsTids (Checkpoint generation next_tid next_bid next_c batches acts states) tids = ⊤
 
 -- a batch has as many values as transactions, or its commit tells none
 pub record HasItsValues (logs : List (List Record)) (bid : Bid) : Type 0 where
@@ -98,6 +99,7 @@ Counts logs a (ActPrepare tid actor state) = (actor.0 ≡ a) × IsActIn logs tid
 Counts logs a (ActCommit tid m c actors) = ⊥
 Counts logs a (BatchDone bid values) = ⊥
 Counts logs a (ActDone tid m c value actors) = ⊥
+Counts logs a (Checkpoint generation next_tid next_bid next_c batches acts states) = ⊥
 
 -- The state of actor a is that of the last record of its log that counts, and where none does it is the first one.
 abbrev pub IsStateOf : List (List Record) → ℕ → State → State → Type 0

@@ -13,7 +13,7 @@ use Rattle.snap_base.specs.declared.ids.Bid.{Bid}
 use Rattle.snap_base.specs.declared.ids.Tid.{Tid}
 use Rattle.snap_base.specs.declared.transactions.State.{State}
 use Rattle.txn_records.specs.declared.records.Record.{Record}
-use Rattle.txn_records.specs.declared.records.Record.TheVariants.{Genesis, BatchInfo, BatchComplete, BatchCommit, ActPrepare, ActCommit, BatchDone, ActDone}
+use Rattle.txn_records.specs.declared.records.Record.TheVariants.{Genesis, BatchInfo, BatchComplete, BatchCommit, ActPrepare, ActCommit, BatchDone, ActDone, Checkpoint}
 use Rattle.txn_records.specs.declared.keys.Key.{Key}
 use Rattle.txn_records.specs.declared.keys.Key.TheVariants as keys
 use Rattle.txn_records.specs.Records.{key}
@@ -130,6 +130,7 @@ RecordTellsState Batches Acts a (ActPrepare tid actor state) = (actor.0 ≡ a) �
 RecordTellsState Batches Acts a (ActCommit tid m c actors) = ⊥
 RecordTellsState Batches Acts a (BatchDone bid values) = ⊥
 RecordTellsState Batches Acts a (ActDone tid m c value actors) = ⊥
+RecordTellsState Batches Acts a (Checkpoint generation next_tid next_bid next_c batches acts states) = ⊥
 
 -- the state of the last record that has P, and where none has it the first one
 abbrev pub StateOver : (Record → Type 0) → List Record → State → State → Type 0

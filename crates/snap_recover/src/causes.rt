@@ -13,6 +13,8 @@ pub enum LogCause {
     OldFormat,
     /// An item is no record: the first byte at which none goes on.
     BadRecord,
+    /// A checkpoint stands elsewhere than behind the Genesis with which log 0 begins, or tells as many states as that does not.
+    Stray,
     /// No log has a Genesis.
     NoGenesis,
     /// The logs have more than one Genesis.

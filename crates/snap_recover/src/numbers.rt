@@ -73,6 +73,7 @@ fn bid_number(r: &Record) -> u64
         Record::ActCommit { m, .. } => m.0,
         Record::BatchDone { bid, .. } => bid.0,
         Record::ActDone { m, .. } => m.0,
+        Record::Checkpoint { .. } => 0,
     }
 }
 

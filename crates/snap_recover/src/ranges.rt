@@ -89,6 +89,7 @@ fn in_range(r: &Record, actors: usize) -> bool
                 && tid.0 <= GREATEST_NUMBER
                 && all_actors_below(named.as_slice(), actors)
         }
+        Record::Checkpoint { .. } => true,
     }
 }
 

@@ -1,0 +1,3 @@
+mod ListsGrown
+mod RunsOnSets
+mod StepsStand

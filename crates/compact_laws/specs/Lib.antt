@@ -1,0 +1,3 @@
+pub mod Members
+pub mod Steps
+pub use Rattle.log_compact.specs as log_compact

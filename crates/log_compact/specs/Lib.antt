@@ -1,0 +1,9 @@
+pub mod Points
+pub mod Sets
+pub mod Finding
+pub mod Folds
+pub mod Fronts
+pub mod Compacting
+pub mod OnDevices
+pub mod Refusals
+pub mod Stripping
