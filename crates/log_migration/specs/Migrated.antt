@@ -1,8 +1,8 @@
 -- What migrating logs leaves of their devices, and why they are not migrated.
 use Rattle.std.specs.Prelude.{ℕ, ◌⊎◌, List, length, take}
 use Rattle.txn_records.specs.declared.records.Record.{Record}
-use Rattle.snap_recover.specs.declared.openings.Opening.{Opening}
-use Rattle.snap_recover.specs.Opening.{IsRecovered}
+use Rattle.log_compact.specs.declared.folds.Folded.{Folded}
+use Rattle.log_compact.specs.Sets.{IsFolded}
 use Rattle.log_opening.specs.Devices.{Device, AreBegun, AreOpened}
 use Rattle.log_opening.specs.Kept.{AreGiven, IsLogsNo}
 use Rattle.log_opening.specs.Upgrades.{AreOld, FailsBeginning}
@@ -13,26 +13,26 @@ use Rattle.log_opening.specs.declared.refusals.LogsNo.TheVariants as ending
 -- devices got no call.
 pub record AreMigrated (before after : List Device) (count : ℕ) : Type 0 where
   pub logs : List (List Record)
-  pub opening : Opening
+  pub fold : Folded
   pub given : AreGiven before logs
-  pub recovered : IsRecovered logs opening
+  pub folded : IsFolded logs fold
   pub begun : AreBegun (length logs) before after
   pub old : AreOld (take (length logs) before) count
 
 -- The logs hold records that recover, and the upgrade of this log failed.
 pub record FailsMigration (before after : List Device) (log : ℕ) : Type 0 where
   pub logs : List (List Record)
-  pub opening : Opening
+  pub fold : Folded
   pub given : AreGiven before logs
-  pub recovered : IsRecovered logs opening
+  pub folded : IsFolded logs fold
   pub fails : FailsBeginning (length logs) before after log
 
 -- There was no memory for what is to be told: the logs recover, and are only opened.
 pub record LacksWords (before after : List Device) : Type 0 where
   pub logs : List (List Record)
-  pub opening : Opening
+  pub fold : Folded
   pub given : AreGiven before logs
-  pub recovered : IsRecovered logs opening
+  pub folded : IsFolded logs fold
   pub opened : AreOpened (length logs) before after
 
 -- Why logs are not migrated. Nothing is upgraded but where an upgrade failed.

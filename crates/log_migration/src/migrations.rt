@@ -1,4 +1,4 @@
-//! Upgrading the logs of format 1 on four devices, once what they hold is recovered.
+//! Upgrading the logs of format 1 on four devices, once what they hold is folded.
 ghost use Rattle.std.specs.Prelude.{◌≡◌, ◌+◌, ◌≤◌, ◌++◌, ℕ, List, [], length, map, take, IfErr, IfOk, MatchResult, string_bytes, vec_len, vec_capacity};
 ghost use Rattle.std.specs.List.{AllZip};
 ghost use Rattle.log_migration.specs.Migrated.{AreMigrated, IsMigrateNo, IsNotTold};
@@ -14,14 +14,15 @@ use snap_outside::LogDev;
 use snap_report::migrated_line;
 use std::alloc::Global;
 
-/// Opens the logs on these devices and recovers what they hold; then makes each of format 1 one of format 2, from log 0 on. The
-/// answer is the line that tells how many these were, which is made before the first of them is touched.
+/// Opens the logs on these devices and recovers what they hold, where a checkpoint counts; then makes each of format 1 one of
+/// format 2, from log 0 on. The answer is the line that tells how many these were, which is made before the first of them is
+/// touched.
 pub fn migrate<D: LogDev>(alloc: Global, devices: &mut Vec<D>) -> Result<String, LogsNo>
     requires { vec_len devices.old ≡ 4 }
     ensures migrated { IfOk result (λ line. (count : ℕ) × (string_bytes line ≡ migrated_text count) × AreMigrated (devices_of D.told D.faults devices.old.items) (devices_of D.told D.faults devices.new.items) count) }
     ensures refused { IfErr result (λ no. IsMigrateNo (devices_of D.told D.faults devices.old.items) (devices_of D.told D.faults devices.new.items) no) }
     ensures four { vec_len devices.new ≡ 4 }
-    // A crash at any moment loses no record, so the logs recover to the same as before.
+    // A crash at any moment loses no record, so the logs fold to the same as before.
     ensures safe { AllZip (λ (b a : Device). KeepsRecords b.told a.told) (devices_of D.told D.faults devices.old.items) (devices_of D.told D.faults devices.new.items) }
     ensures later { AllZip (λ (b a : Device). b.faults ≤ a.faults) (devices_of D.told D.faults devices.old.items) (devices_of D.told D.faults devices.new.items) }
 {
@@ -34,7 +35,7 @@ pub fn migrate<D: LogDev>(alloc: Global, devices: &mut Vec<D>) -> Result<String,
     answer
 }
 
-/// Opens the logs, recovers what they hold and upgrades those of format 1. All that were opened stay open.
+/// Opens the logs, folds what they hold and upgrades those of format 1. All that were opened stay open.
 fn recover_and_upgrade<D: LogDev>(
     alloc: Global,
     devices: &mut Vec<D>,
@@ -52,7 +53,7 @@ fn recover_and_upgrade<D: LogDev>(
     ensures room { 4 ≤ vec_capacity devices.new }
 {
     match open_and_recover(alloc, devices, opened) {
-        Ok(_opening) => tell_and_upgrade(alloc, opened),
+        Ok(_folded) => tell_and_upgrade(alloc, opened),
         Err(no) => Err(no),
     }
 }

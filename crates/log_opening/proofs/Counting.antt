@@ -63,6 +63,7 @@ no_read law count before mid after logs found (ending.Refused log offset cause.B
       recent = subst (λ (n : ℕ). HoldNoOld n before) size ready.recent;
       begun = subst (λ (n : ℕ). AreBegun n before after) size (begun_all before after found ready.begun);
     }
+no_read law count before mid after logs found (ending.Refused log offset cause.Stray) size are ready why = absurd why
 no_read law count before mid after logs found (ending.Refused log offset cause.NoGenesis) size are ready why = absurd why
 no_read law count before mid after logs found (ending.Refused log offset cause.TwoGenesis) size are ready why = absurd why
 no_read law count before mid after logs found (ending.Refused log offset (cause.LogCount k f)) size are ready why = absurd why

@@ -3,24 +3,24 @@ use Rattle.std.proofs.Common.{◌≡◌, ℕ, ◌≤◌, inl, inr, List, [], ◌
 use Rattle.std.proofs.lemmas.List.{take_all}
 use Rattle.std.proofs.lemmas.Slice.Zip.{AllZip-long}
 use Rattle.std.specs.Prelude.{IfOk, IfErr, OnOk, MatchResult}
-use Rattle.std.specs.List.{AllZip, AllByRecursion}
+use Rattle.std.specs.List.{AllZip}
 use Rattle.gate_log.specs.declared.logs.LogItem.{LogItem}
 use Rattle.gate_log.specs.State.{LogState}
 use Rattle.txn_records.specs.declared.records.Record.{Record}
-use Rattle.txn_records.specs.Records.{IsRecord}
 use Rattle.record_log.specs.Records.{AreItemsOf}
 use Rattle.record_log.specs.RecordLogLaws.{OpenedHeld, ItemsAreRecords}
-use Rattle.snap_recover.specs.declared.openings.Opening.{Opening}
-use Rattle.snap_recover.specs.Opening.{IsRecovered}
+use Rattle.log_compact.specs.declared.folds.Folded.{Folded}
+use Rattle.log_compact.specs.Folds.{FoldsAreOfRecords}
+use Rattle.log_compact.specs.Sets.{IsFolded}
 use Rattle.log_opening.specs.declared.refusals.LogsNo.{LogsNo}
 use Rattle.log_opening.specs.declared.refusals.LogsNo.TheVariants as ending
 use Rattle.log_opening.specs.Devices.{Device, device_at, AreOpened}
-use Rattle.log_opening.specs.Found.{AreFound, IsHalted, IsReadyLog, IsNoReading, IsNoDecoding, IsNoRecovery}
+use Rattle.log_opening.specs.Found.{AreFound, IsHalted, IsReadyLog, IsNoReading, IsNoDecoding, IsNoFold}
 use Rattle.log_opening.specs.Kept.{logs_said, DeviceHolds, IsLogsNo}
 use Rattle.log_opening.specs.Reads.{AreOpenOn, IsEnded, IsFirstRead, IsOpenOn, AreRead}
 use Rattle.log_opening.proofs.Opening.{found_opened, found_touched, all_untouched}
 use Rattle.log_opening.proofs.Reading.{said_range, zip_holds, zip_first, each_record, given}
-use Rattle.log_opening.proofs.Refusing.{halted_no, asked_first, reading_no, decoding_no, recovery_no}
+use Rattle.log_opening.proofs.Refusing.{halted_no, asked_first, reading_no, decoding_no, fold_no}
 
 -- ---- log 0
 
@@ -97,26 +97,26 @@ read_back before after mid before_mid r first last read =
     subst (λ (l : List Device). MatchResult r (λ logs. AreRead before l logs) (λ a. IsEnded before l a)) (sym last)
     (subst (λ (l : List Device). MatchResult r (λ logs. AreRead l mid logs) (λ a. IsEnded l mid a)) first read)
 
--- ---- recovered
+-- ---- folded
 
-pub read_refused : (before after : List Device) (logs : List (List Record)) (r : Result Opening LogsNo) → AreRead before after logs
-    → MatchResult r (λ o. IsRecovered logs o) (λ a. IsNoRecovery logs a) → IfErr r (λ a. IsLogsNo before after a)
-read_refused before after logs (Ok o) read said = tt
-read_refused before after logs (Err a) read said = recovery_no before after logs a read.given read.opened said
+pub read_refused : (before after : List Device) (logs : List (List Record)) (r : Result Folded LogsNo) → AreRead before after logs
+    → MatchResult r (λ f. IsFolded logs f) (λ a. IsNoFold logs a) → IfErr r (λ a. IsLogsNo before after a)
+read_refused before after logs (Ok f) read said = tt
+read_refused before after logs (Err a) read said = fold_no before after logs a read.given read.opened said
 
 -- the logs stay open
-pub recovered_open : (before after : List Device) (logs : List LogState) (found : List (List LogItem)) (rs : List (List Record)) (r : Result Opening LogsNo) → AreRead before after rs → length rs ≡ length found
-    → AreOpenOn before after logs found → MatchResult r (λ o. IsRecovered rs o) (λ a. IsNoRecovery rs a) → IfOk r (λ o. IsOpenOn before after logs found o)
-recovered_open before after logs found rs (Ok o) read many open_logs said = record { records = rs; read = read; recovered = said; as_many = many; open_logs = open_logs }
-recovered_open before after logs found rs (Err a) read many open_logs said = tt
+pub folded_open : (before after : List Device) (logs : List LogState) (found : List (List LogItem)) (rs : List (List Record)) (r : Result Folded LogsNo) → AreRead before after rs → length rs ≡ length found
+    → AreOpenOn before after logs found → MatchResult r (λ f. IsFolded rs f) (λ a. IsNoFold rs a) → IfOk r (λ f. IsOpenOn before after logs found f)
+folded_open before after logs found rs (Ok f) read many open_logs said = record { records = rs; read = read; folded = said; as_many = many; open_logs = open_logs }
+folded_open before after logs found rs (Err a) read many open_logs said = tt
 
-pub refused_open : (before after : List Device) (rs : List (List Record)) (r : Result Opening LogsNo) → AreRead before after rs → MatchResult r (λ o. IsRecovered rs o) (λ a. IsNoRecovery rs a)
+pub refused_open : (before after : List Device) (rs : List (List Record)) (r : Result Folded LogsNo) → AreRead before after rs → MatchResult r (λ f. IsFolded rs f) (λ a. IsNoFold rs a)
     → IfErr r (λ a. IsEnded before after a)
-refused_open before after rs (Ok o) read said = tt
-refused_open before after rs (Err a) read said = record { cause = recovery_no before after rs a read.given read.opened said; touched = read.touched }
+refused_open before after rs (Ok f) read said = tt
+refused_open before after rs (Err a) read said = record { cause = fold_no before after rs a read.given read.opened said; touched = read.touched }
 
-pub read_few : (before after : List Device) (logs : List (List Record)) (r : Result Opening LogsNo)
-    → ((all : List (List Record)) (o : Opening) → AllByRecursion (AllByRecursion IsRecord) all → IsRecovered all o → length o.states ≤ 256) → AreRead before after logs
-    → MatchResult r (λ o. IsRecovered logs o) (λ a. IsNoRecovery logs a) → IfOk r (λ o. length o.states ≤ 256)
-read_few before after logs (Ok o) few read said = few logs o read.given.4 said
-read_few before after logs (Err a) few read said = tt
+pub read_few : (before after : List Device) (logs : List (List Record)) (r : Result Folded LogsNo)
+    → FoldsAreOfRecords → AreRead before after logs
+    → MatchResult r (λ f. IsFolded logs f) (λ a. IsNoFold logs a) → IfOk r (λ f. length f.opening.states ≤ 256)
+read_few before after logs (Ok f) law read said = (law logs f read.given.4 said).few
+read_few before after logs (Err a) law read said = tt

@@ -9,7 +9,7 @@ use Rattle.snap_outside.specs.Disk.{DeviceHistory, content}
 use Rattle.gate_log.specs.declared.logs.LogItem.{LogItem}
 use Rattle.gate_log.specs.Opened.{Opened}
 use Rattle.txn_records.specs.declared.records.Record.{Record}
-use Rattle.txn_records.specs.declared.records.Record.TheVariants.{Genesis, BatchInfo, BatchComplete, BatchCommit, ActPrepare, ActCommit, BatchDone, ActDone}
+use Rattle.txn_records.specs.declared.records.Record.TheVariants.{Genesis, BatchInfo, BatchComplete, BatchCommit, ActPrepare, ActCommit, BatchDone, ActDone, Checkpoint}
 use Rattle.txn_records.specs.Records.{IsRecord}
 use Rattle.record_log.specs.Records.{HoldsRecords, AreItemsOf, IsFirstBadIn}
 use Rattle.record_log.specs.RecordLogLaws.{OpenedHeld, ItemsAreRecords}
@@ -33,6 +33,7 @@ said_first (ActPrepare t a s ∷ rs) more logs states is = said_first rs more lo
 said_first (ActCommit t m c a ∷ rs) more logs states is = said_first rs more logs states is
 said_first (BatchDone b v ∷ rs) more logs states is = said_first rs more logs states is
 said_first (ActDone t m c v a ∷ rs) more logs states is = said_first rs more logs states is
+said_first (Checkpoint g t b c m n ss ∷ rs) more logs states is = said_first rs more logs states is
 
 pub said_one : (rs : List Record) → filter is_genesis rs ≡ [] → logs_said rs ≡ 1
 said_one [] none = refl
@@ -44,6 +45,7 @@ said_one (ActPrepare t a s ∷ rs) none = said_one rs none
 said_one (ActCommit t m c a ∷ rs) none = said_one rs none
 said_one (BatchDone b v ∷ rs) none = said_one rs none
 said_one (ActDone t m c v a ∷ rs) none = said_one rs none
+said_one (Checkpoint g t b c m n ss ∷ rs) none = said_one rs none
 
 -- the Geneses of one log
 pub geneses_one : (logs : List (List Record)) (rs : List Record) → logs ≡ rs ∷ [] → geneses logs ≡ filter is_genesis rs
@@ -59,6 +61,7 @@ said_range (ActPrepare t a s ∷ rs) are = said_range rs are.1
 said_range (ActCommit t m c a ∷ rs) are = said_range rs are.1
 said_range (BatchDone b v ∷ rs) are = said_range rs are.1
 said_range (ActDone t m c v a ∷ rs) are = said_range rs are.1
+said_range (Checkpoint g t b c m n ss ∷ rs) are = said_range rs are.1
 
 -- ---- what the devices hold
 
@@ -151,6 +154,7 @@ bad_among found known log logs more (ending.Refused l offset cause.BadRecord) lt
 bad_among found known log logs more (ending.Refused l offset cause.NotALog) lt all same why = absurd why
 bad_among found known log logs more (ending.Refused l offset cause.Damage) lt all same why = absurd why
 bad_among found known log logs more (ending.Refused l offset cause.OldFormat) lt all same why = absurd why
+bad_among found known log logs more (ending.Refused l offset cause.Stray) lt all same why = absurd why
 bad_among found known log logs more (ending.Refused l offset cause.NoGenesis) lt all same why = absurd why
 bad_among found known log logs more (ending.Refused l offset cause.TwoGenesis) lt all same why = absurd why
 bad_among found known log logs more (ending.Refused l offset (cause.LogCount k f)) lt all same why = absurd why

@@ -237,6 +237,7 @@ module _ (laws : ReadyLaws) where
   not_ready count before others old new found (ending.Refused log offset cause.NotALog) size as_many are ready why = absurd why
   not_ready count before others old new found (ending.Refused log offset cause.Damage) size as_many are ready why = absurd why
   not_ready count before others old new found (ending.Refused log offset cause.BadRecord) size as_many are ready why = absurd why
+  not_ready count before others old new found (ending.Refused log offset cause.Stray) size as_many are ready why = absurd why
   not_ready count before others old new found (ending.Refused log offset cause.NoGenesis) size as_many are ready why = absurd why
   not_ready count before others old new found (ending.Refused log offset cause.TwoGenesis) size as_many are ready why = absurd why
   not_ready count before others old new found (ending.Refused log offset (cause.LogCount k f)) size as_many are ready why = absurd why

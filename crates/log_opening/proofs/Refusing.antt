@@ -14,7 +14,7 @@ use Rattle.log_opening.specs.declared.refusals.LogsNo.{LogsNo}
 use Rattle.log_opening.specs.declared.refusals.LogsNo.TheVariants as ending
 use Rattle.log_opening.specs.Devices as devices
 use Rattle.log_opening.specs.Devices.{device_at, AreOpened, IsReached}
-use Rattle.log_opening.specs.Found.{IsLeftClosed, AreFound, IsStoppedAt, IsHalted, no_of_opening, IsNoReading, IsNoDecoding, IsNoRecovery}
+use Rattle.log_opening.specs.Found.{IsLeftClosed, AreFound, IsStoppedAt, IsHalted, no_of_opening, IsNoReading, IsNoDecoding, IsNoFold}
 use Rattle.log_opening.specs.Kept.{logs_said, DeviceHolds, AreGiven, IsLogAsked, IsLogsNo}
 use Rattle.log_opening.proofs.Opening.{found_length, found_next, found_opened, found_reached}
 use Rattle.log_opening.proofs.Reading.{zip_holds, zip_first, found_opened_at}
@@ -77,6 +77,7 @@ reading_no before after found (ending.Refused log offset cause.BadRecord) one ar
     let opened : AreOpened 1 before after = subst (λ (n : ℕ). AreOpened n before after) one (found_opened before after found are) in
     subst (λ (l : ℕ). IsLogsNo before after (ending.Refused l offset cause.BadRecord)) (sym why.0)
     (inl refl, (at.0, get_or found 0 [], at.1, why.1), inl (refl, opened))
+reading_no before after found (ending.Refused log offset cause.Stray) one are why = absurd why
 reading_no before after found (ending.Refused log offset cause.NoGenesis) one are why = absurd why
 reading_no before after found (ending.Refused log offset cause.TwoGenesis) one are why = absurd why
 reading_no before after found (ending.Refused log offset (cause.LogCount k f)) one are why = absurd why
@@ -99,6 +100,7 @@ decoding_no law before after found first (ending.Refused log offset cause.BadRec
     let lt : log < logs_said first = omega (arith, why.2, said) in
     let opened : AreOpened (logs_said first) before after = subst (λ (n : ℕ). AreOpened n before after) said (found_opened before after found are) in
     (inr (first, held, lt), (at.0, get_or found log [], at.1, why.4), inr (first, why.0, omega (arith, why.1), all, lt, opened))
+decoding_no law before after found first (ending.Refused log offset cause.Stray) held said are why = absurd why
 decoding_no law before after found first (ending.Refused log offset cause.NoGenesis) held said are why = absurd why
 decoding_no law before after found first (ending.Refused log offset cause.TwoGenesis) held said are why = absurd why
 decoding_no law before after found first (ending.Refused log offset (cause.LogCount k f)) held said are why = absurd why
@@ -111,7 +113,7 @@ decoding_no law before after found first (ending.Device log) held said are why =
 decoding_no law before after found first ending.Memory held said are why =
     inl (logs_said first, (λ log lt. inr (first, held, lt)), subst (λ (n : ℕ). AreOpened n before after) said (found_opened before after found are))
 
--- ---- recovering
+-- ---- folding
 
 -- the logs that are given are those that log 0 says
 pub given_asked : (before : List devices.Device) (logs : List (List Record)) → AreGiven before logs → (log : ℕ) → log < length logs → IsLogAsked before log
@@ -119,19 +121,20 @@ given_asked before logs given log lt =
     let held : AllZip DeviceHolds (take (length logs) before) (given.0 ∷ given.1) = subst (λ (l : List (List Record)). AllZip DeviceHolds (take (length logs) before) l) given.2 given.5 in
     inr (given.0, zip_first (length logs) before given.0 given.1 held, omega (arith, lt, given.3))
 
-pub recovery_no : (before after : List devices.Device) (logs : List (List Record)) (answer : LogsNo) → AreGiven before logs → AreOpened (length logs) before after
-    → IsNoRecovery logs answer → IsLogsNo before after answer
-recovery_no before after logs (ending.Refused log offset cause.NotALog) given opened why = absurd why.1
-recovery_no before after logs (ending.Refused log offset cause.Damage) given opened why = absurd why.1
-recovery_no before after logs (ending.Refused log offset cause.OldFormat) given opened why = absurd why.1
-recovery_no before after logs (ending.Refused log offset cause.BadRecord) given opened why = absurd why.1
-recovery_no before after logs (ending.Refused log offset cause.NoGenesis) given opened why = (why.0, (logs, given, why.1, opened))
-recovery_no before after logs (ending.Refused log offset cause.TwoGenesis) given opened why = (why.0, (logs, given, why.1, opened))
-recovery_no before after logs (ending.Refused log offset (cause.LogCount k f)) given opened why = (why.0, (logs, given, why.1, opened))
-recovery_no before after logs (ending.Refused log offset (cause.Range k)) given opened why = (why.0, (logs, given, why.1, opened))
-recovery_no before after logs (ending.Refused log offset (cause.Missing k)) given opened why = (why.0, (logs, given, why.1, opened))
-recovery_no before after logs (ending.Refused log offset (cause.Values k u v)) given opened why = (why.0, (logs, given, why.1, opened))
-recovery_no before after logs (ending.Refused log offset (cause.Spent n)) given opened why = absurd why.1
-recovery_no before after logs (ending.Refused log offset (cause.Differs w k t)) given opened why = absurd why.1
-recovery_no before after logs (ending.Device log) given opened why = absurd why
-recovery_no before after logs ending.Memory given opened why = inl (length logs, given_asked before logs given, opened)
+pub fold_no : (before after : List devices.Device) (logs : List (List Record)) (answer : LogsNo) → AreGiven before logs → AreOpened (length logs) before after
+    → IsNoFold logs answer → IsLogsNo before after answer
+fold_no before after logs (ending.Refused log offset cause.NotALog) given opened why = absurd why.1
+fold_no before after logs (ending.Refused log offset cause.Damage) given opened why = absurd why.1
+fold_no before after logs (ending.Refused log offset cause.OldFormat) given opened why = absurd why.1
+fold_no before after logs (ending.Refused log offset cause.BadRecord) given opened why = absurd why.1
+fold_no before after logs (ending.Refused log offset cause.Stray) given opened why = (why.0, (logs, given, why.1, opened))
+fold_no before after logs (ending.Refused log offset cause.NoGenesis) given opened why = (why.0, (logs, given, why.1, opened))
+fold_no before after logs (ending.Refused log offset cause.TwoGenesis) given opened why = (why.0, (logs, given, why.1, opened))
+fold_no before after logs (ending.Refused log offset (cause.LogCount k f)) given opened why = (why.0, (logs, given, why.1, opened))
+fold_no before after logs (ending.Refused log offset (cause.Range k)) given opened why = (why.0, (logs, given, why.1, opened))
+fold_no before after logs (ending.Refused log offset (cause.Missing k)) given opened why = (why.0, (logs, given, why.1, opened))
+fold_no before after logs (ending.Refused log offset (cause.Values k u v)) given opened why = (why.0, (logs, given, why.1, opened))
+fold_no before after logs (ending.Refused log offset (cause.Spent n)) given opened why = absurd why.1
+fold_no before after logs (ending.Refused log offset (cause.Differs w k t)) given opened why = absurd why.1
+fold_no before after logs (ending.Device log) given opened why = absurd why
+fold_no before after logs ending.Memory given opened why = inl (length logs, given_asked before logs given, opened)

@@ -15,7 +15,8 @@ use Rattle.record_log.specs.Records.{AreItemsOf, IsFirstBadIn, KeepsRecords}
 use Rattle.snap_recover.specs.declared.causes.LogCause.{LogCause}
 use Rattle.snap_recover.specs.declared.causes.LogCause.TheVariants as cause
 use Rattle.snap_recover.specs.declared.refusals.RecoverNo.TheVariants as recover
-use Rattle.snap_recover.specs.Refusals.{IsRefused}
+use Rattle.log_compact.specs.declared.refusals.FoldNo.TheVariants as fold
+use Rattle.log_compact.specs.Refusals.{IsNotFolded}
 use Rattle.log_opening.specs.declared.refusals.LogsNo.{LogsNo}
 use Rattle.log_opening.specs.declared.refusals.LogsNo.TheVariants as ending
 use Rattle.log_opening.specs.Devices as devices
@@ -128,23 +129,24 @@ IsNoDecoding found known (ending.Refused log offset c) = ⊥
 IsNoDecoding found known (ending.Device log) = ⊥
 IsNoDecoding found known ending.Memory = ⊤
 
--- why the records of all logs recover to nothing, and the log that is named
-abbrev pub IsRecoveryCause : List (List Record) → ℕ → LogCause → Type 0
-IsRecoveryCause logs log cause.NotALog = ⊥
-IsRecoveryCause logs log cause.Damage = ⊥
-IsRecoveryCause logs log cause.OldFormat = ⊥
-IsRecoveryCause logs log cause.BadRecord = ⊥
-IsRecoveryCause logs log cause.NoGenesis = (log ≡ 0) × IsRefused logs recover.NoGenesis
-IsRecoveryCause logs log cause.TwoGenesis = (log ≡ 0) × IsRefused logs recover.TwoGenesis
-IsRecoveryCause logs log (cause.LogCount kept found) = (log ≡ 0) × IsRefused logs (recover.LogCount kept found)
-IsRecoveryCause logs log (cause.Range k) = IsRefused logs (recover.Range k log)
-IsRecoveryCause logs log (cause.Missing k) = IsRefused logs (recover.Missing k log)
-IsRecoveryCause logs log (cause.Values k u v) = IsRefused logs (recover.Values k log u v)
-IsRecoveryCause logs log (cause.Spent number) = ⊥
-IsRecoveryCause logs log (cause.Differs what kept text) = ⊥
+-- why the records of all logs fold to nothing, and the log that is named
+abbrev pub IsFoldCause : List (List Record) → ℕ → LogCause → Type 0
+IsFoldCause logs log cause.NotALog = ⊥
+IsFoldCause logs log cause.Damage = ⊥
+IsFoldCause logs log cause.OldFormat = ⊥
+IsFoldCause logs log cause.BadRecord = ⊥
+IsFoldCause logs log cause.Stray = IsNotFolded logs (fold.Stray log)
+IsFoldCause logs log cause.NoGenesis = (log ≡ 0) × IsNotFolded logs (fold.Recover recover.NoGenesis)
+IsFoldCause logs log cause.TwoGenesis = (log ≡ 0) × IsNotFolded logs (fold.Recover recover.TwoGenesis)
+IsFoldCause logs log (cause.LogCount kept found) = (log ≡ 0) × IsNotFolded logs (fold.Recover (recover.LogCount kept found))
+IsFoldCause logs log (cause.Range k) = IsNotFolded logs (fold.Range k log) ⊎ IsNotFolded logs (fold.Recover (recover.Range k log))
+IsFoldCause logs log (cause.Missing k) = IsNotFolded logs (fold.Recover (recover.Missing k log))
+IsFoldCause logs log (cause.Values k u v) = IsNotFolded logs (fold.Recover (recover.Values k log u v))
+IsFoldCause logs log (cause.Spent number) = ⊥
+IsFoldCause logs log (cause.Differs what kept text) = ⊥
 
--- why the records of all logs recover to nothing, as `LogsNo` tells it
-abbrev pub IsNoRecovery : List (List Record) → LogsNo → Type 0
-IsNoRecovery logs (ending.Refused log offset c) = (offset ≡ 0) × IsRecoveryCause logs log c
-IsNoRecovery logs (ending.Device log) = ⊥
-IsNoRecovery logs ending.Memory = ⊤
+-- why the records of all logs fold to nothing, as `LogsNo` tells it
+abbrev pub IsNoFold : List (List Record) → LogsNo → Type 0
+IsNoFold logs (ending.Refused log offset c) = (offset ≡ 0) × IsFoldCause logs log c
+IsNoFold logs (ending.Device log) = ⊥
+IsNoFold logs ending.Memory = ⊤

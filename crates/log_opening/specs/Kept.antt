@@ -7,12 +7,12 @@ use Rattle.gate_log.specs.declared.logs.LogItem.{LogItem}
 use Rattle.gate_log.specs.declared.opens.OpenNo.TheVariants as refusal
 use Rattle.gate_log.specs.Opened.{Opened, Refused}
 use Rattle.txn_records.specs.declared.records.Record.{Record}
-use Rattle.txn_records.specs.declared.records.Record.TheVariants.{Genesis, BatchInfo, BatchComplete, BatchCommit, ActPrepare, ActCommit, BatchDone, ActDone}
+use Rattle.txn_records.specs.declared.records.Record.TheVariants.{Genesis, BatchInfo, BatchComplete, BatchCommit, ActPrepare, ActCommit, BatchDone, ActDone, Checkpoint}
 use Rattle.txn_records.specs.Records.{IsRecord}
 use Rattle.record_log.specs.Records.{HoldsRecords, IsFirstBadIn}
 use Rattle.snap_recover.specs.declared.causes.LogCause.{LogCause}
 use Rattle.snap_recover.specs.declared.causes.LogCause.TheVariants as cause
-use Rattle.log_opening.specs.Found.{IsRecoveryCause}
+use Rattle.log_opening.specs.Found.{IsFoldCause}
 use Rattle.log_opening.specs.declared.refusals.LogsNo.{LogsNo}
 use Rattle.log_opening.specs.declared.refusals.LogsNo.TheVariants as ending
 use Rattle.log_opening.specs.Devices as devices
@@ -28,6 +28,7 @@ logs_said (ActPrepare tid actor state ∷ rs) = logs_said rs
 logs_said (ActCommit tid m c actors ∷ rs) = logs_said rs
 logs_said (BatchDone bid values ∷ rs) = logs_said rs
 logs_said (ActDone tid m c value actors ∷ rs) = logs_said rs
+logs_said (Checkpoint generation next_tid next_bid next_c batches acts states ∷ rs) = logs_said rs
 
 -- log 0 says how many logs there are, and there are so many
 abbrev pub IsSaid : List (List Record) → Type 0
@@ -54,7 +55,7 @@ IsDecoded before after log =
     ⊎ ((first : List Record) × (others : List (List Record)) × (log ≡ length others + 1) × AllZip DeviceHolds (take log before) (first ∷ others)
     × (log < logs_said first) × devices.AreOpened (logs_said first) before after)
 
--- What this log holds is refused, for this cause: it was not opened, or not decoded; or the records of all recover to nothing.
+-- What this log holds is refused, for this cause: it was not opened, or not decoded; or the records of all fold to nothing.
 abbrev pub IsLogRefused : List devices.Device → List devices.Device → ℕ → ℕ → LogCause → Type 0
 IsLogRefused before after log offset cause.NotALog =
     IsLogAsked before log × Refused (devices.device_at before log).told (devices.device_at after log).told (refusal.NotALog offset)
@@ -67,7 +68,7 @@ IsLogRefused before after log offset cause.BadRecord =
     × Opened (devices.device_at before log).told (devices.device_at after log).told end found × IsFirstBadIn found offset)
     × IsDecoded before after log
 IsLogRefused before after log offset c =
-    (offset ≡ 0) × ((logs : List (List Record)) × AreGiven before logs × IsRecoveryCause logs log c × devices.AreOpened (length logs) before after)
+    (offset ≡ 0) × ((logs : List (List Record)) × AreGiven before logs × IsFoldCause logs log c × devices.AreOpened (length logs) before after)
 
 -- the device of a log that is asked failed, and the devices behind it got no call
 abbrev pub HasFailedDevice : List devices.Device → List devices.Device → ℕ → Type 0

@@ -5,8 +5,8 @@ use Rattle.gate_log.specs.declared.logs.LogItem.{LogItem}
 use Rattle.gate_log.specs.State.{LogState}
 use Rattle.txn_records.specs.declared.records.Record.{Record}
 use Rattle.record_log.specs.Records.{AreItemsOf}
-use Rattle.snap_recover.specs.declared.openings.Opening.{Opening}
-use Rattle.snap_recover.specs.Opening.{IsRecovered}
+use Rattle.log_compact.specs.declared.folds.Folded.{Folded}
+use Rattle.log_compact.specs.Sets.{IsFolded}
 use Rattle.log_opening.specs.declared.refusals.LogsNo.{LogsNo}
 use Rattle.log_opening.specs.Devices.{Device, AreOpened}
 use Rattle.log_opening.specs.Found.{IsReadyLog, IsTouched, AreFound}
@@ -34,10 +34,10 @@ pub record AreOpenOn (before after : List Device) (logs : List LogState) (found 
   pub are_found : AreFound before after found
   pub ready : AllZip IsReadyLog logs found
 
--- all logs are open, and what was found there recovers to the opening
-pub record IsOpenOn (before after : List Device) (logs : List LogState) (found : List (List LogItem)) (o : Opening) : Type 0 where
+-- all logs are open, and what was found there folds to this
+pub record IsOpenOn (before after : List Device) (logs : List LogState) (found : List (List LogItem)) (f : Folded) : Type 0 where
   pub records : List (List Record)
   pub read : AreRead before after records
-  pub recovered : IsRecovered records o
+  pub folded : IsFolded records f
   pub as_many : length records ≡ length found
   pub open_logs : AreOpenOn before after logs found

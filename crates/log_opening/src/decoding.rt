@@ -1,17 +1,18 @@
-//! The records of opened logs, and what they recover to.
+//! The records of opened logs, and what they fold to.
 ghost use Rattle.std.specs.Prelude.{◌≡◌, ◌≤◌, ℕ, List, [], ◌∷◌, ◌++◌, length, take, MatchResult};
 ghost use Rattle.std.specs.List.{AllByRecursion, AllZip};
 ghost use Rattle.txn_records.specs.declared.records.Record.{Record};
 ghost use Rattle.record_log.specs.Records.{AreItemsOf};
-ghost use Rattle.snap_recover.specs.Opening.{IsRecovered};
-ghost use Rattle.log_opening.specs.Found.{ArePlaced, IsNoReading, IsNoDecoding, IsNoRecovery};
+ghost use Rattle.log_compact.specs.Sets.{IsFolded};
+ghost use Rattle.log_opening.specs.Found.{ArePlaced, IsNoReading, IsNoDecoding, IsNoFold};
 
 use crate::LogsNo;
-use crate::refusals::of_recovery;
+use crate::refusals::of_fold;
 use gate_log::LogItem;
+use log_compact::{Folded, fold};
 use record_log::{ItemsNo, records_of};
 use snap_base::Sequence;
-use snap_recover::{LogCause, Opening, recover};
+use snap_recover::LogCause;
 use std::alloc::Global;
 use txn_records::Record;
 
@@ -80,12 +81,12 @@ pub(crate) fn read_logs(
     Ok(logs)
 }
 
-/// What the records of the logs recover to; or the log and the cause for which they recover to nothing.
-pub fn recover_records(alloc: Global, logs: &[Sequence<Record>]) -> Result<Opening, LogsNo>
-    ensures { MatchResult result (λ o. IsRecovered logs.now o) (λ no. IsNoRecovery logs.now no) }
+/// What the records of the logs fold to; or the log and the cause for which they fold to nothing.
+pub fn fold_records(alloc: Global, logs: Sequence<Sequence<Record>>) -> Result<Folded, LogsNo>
+    ensures { MatchResult result (λ f. IsFolded logs f) (λ no. IsNoFold logs no) }
 {
-    match recover(alloc, logs) {
-        Ok(opening) => Ok(opening),
-        Err(no) => Err(of_recovery(no)),
+    match fold(alloc, logs) {
+        Ok(folded) => Ok(folded),
+        Err(no) => Err(of_fold(no)),
     }
 }

@@ -14,8 +14,9 @@ mod refusals;
 mod upgrades;
 
 pub use counted::open_and_decode;
-pub use decoding::{read_log, recover_records};
+pub use decoding::{fold_records, read_log};
 pub use laws::no_call_is_safe;
+pub use log_compact::Folded;
 pub use openings::{OpenLogs, close, no_logs, open_logs};
 pub use recovery::{open_and_recover, recover_kept};
 pub use refusals::{LogsNo, of_opening};

@@ -4,7 +4,8 @@ ghost use Rattle.std.specs.List.{AllZip};
 ghost use Rattle.txn_records.specs.declared.limits.TheConstants.{MOST_LISTED};
 ghost use Rattle.txn_records.specs.declared.records.Record.{Record};
 ghost use Rattle.record_log.specs.Records.{KeepsRecords};
-ghost use Rattle.snap_recover.specs.Opening.{IsRecovered};
+ghost use Rattle.log_compact.specs.declared.folds.Folded.{Folded};
+ghost use Rattle.log_compact.specs.Sets.{IsFolded};
 ghost use Rattle.log_opening.specs.Devices.{Device, devices_of, devices_now, device_at, IsOpenedAtMost, AreOpened};
 ghost use Rattle.log_opening.specs.Found.{IsReadyLog};
 ghost use Rattle.log_opening.specs.Kept.{logs_said, DeviceHolds, AreGiven, IsLogsNo};
@@ -12,56 +13,57 @@ ghost use Rattle.log_opening.specs.Reads.{AreOpenOn, AreRead, IsEnded, IsFirstRe
 
 use crate::LogsNo;
 use crate::counts::logs_said;
-use crate::decoding::{read_log, read_others, recover_records};
+use crate::decoding::{fold_records, read_log, read_others};
 use crate::openings::{OpenLogs, close, no_logs, open_logs};
+use log_compact::{Folded, folds_are_of_records};
 use record_log::{opened_holds, records_are_held};
 use snap_base::Sequence;
 use snap_outside::LogDev;
-use snap_recover::{Opening, recovered_states};
 use std::alloc::Global;
 use txn_records::Record;
 
-/// What the logs on these devices recover to. Log 0 is opened and decoded whole; it says how many there are; the
-/// others are opened, one after the other, and then decoded. A Genesis says four logs at most, so there is a device
-/// for each, and the cause `LogCount` never comes: the logs that are decoded are as many as log 0 says.
-pub fn recover_kept<D: LogDev>(alloc: Global, devices: &mut Vec<D>) -> Result<Opening, LogsNo>
+/// What the logs on these devices recover to, where a checkpoint counts: it stands for the records that were there before it, so
+/// this is what they fold to. Log 0 is opened and decoded whole; it says how many there are; the others are opened, one after the
+/// other, and then decoded. A Genesis says four logs at most, so there is a device for each, and the cause `LogCount` never comes:
+/// the logs that are decoded are as many as log 0 says.
+pub fn recover_kept<D: LogDev>(alloc: Global, devices: &mut Vec<D>) -> Result<Folded, LogsNo>
     requires { vec_len devices.old ≡ 4 }
     // As many logs as log 0 says are opened, and the others get no call.
-    ensures recovered { IfOk result (λ o. (logs : List (List Record)) × AreGiven (devices_of D.told D.faults devices.old.items) logs × IsRecovered logs o
+    ensures recovered { IfOk result (λ (f : Folded). (logs : List (List Record)) × AreGiven (devices_of D.told D.faults devices.old.items) logs × IsFolded logs f
         × AreOpened (length logs) (devices_of D.told D.faults devices.old.items) (devices_of D.told D.faults devices.new.items)) }
     ensures refused { IfErr result (λ no. IsLogsNo (devices_of D.told D.faults devices.old.items) (devices_of D.told D.faults devices.new.items) no) }
-    ensures actors { IfOk result (λ o. length o.states ≤ MOST_LISTED) }
+    ensures actors { IfOk result (λ (f : Folded). length f.opening.states ≤ MOST_LISTED) }
     ensures four { vec_len devices.new ≡ 4 }
     // Each device got no call but those of opening, and a crash at any moment loses no record.
     ensures opened { AllZip IsOpenedAtMost (devices_of D.told D.faults devices.old.items) (devices_of D.told D.faults devices.new.items) }
     ensures safe { AllZip (λ (a b : Device). KeepsRecords a.told b.told) (devices_of D.told D.faults devices.old.items) (devices_of D.told D.faults devices.new.items) }
     ensures later { AllZip (λ (a b : Device). a.faults ≤ b.faults) (devices_of D.told D.faults devices.old.items) (devices_of D.told D.faults devices.new.items) }
 {
-    recovered_states();
+    folds_are_of_records();
     match all_records(alloc, devices) {
-        Ok(logs) => recover_records(alloc, logs.as_slice()),
+        Ok(logs) => fold_records(alloc, logs),
         Err(no) => Err(no),
     }
 }
 
-/// What the logs on these devices recover to. Log 0 is opened and decoded whole; it says how many there are; the others
-/// are opened and then decoded. All that were opened stay open, also where nothing is recovered.
+/// What the logs on these devices fold to. Log 0 is opened and decoded whole; it says how many there are; the others are opened
+/// and then decoded. All that were opened stay open, also where they fold to nothing.
 pub fn open_and_recover<D: LogDev>(
     alloc: Global,
     devices: &mut Vec<D>,
     opened: &mut OpenLogs<D>,
-) -> Result<Opening, LogsNo>
+) -> Result<Folded, LogsNo>
     requires four { vec_len devices.old ≡ 4 }
     requires none { (opened.old.found ≡ []) × (vec_len opened.old.logs ≡ 0) }
     requires room { (4 ≤ vec_capacity opened.old.logs) × (4 ≤ vec_capacity devices.old) }
-    ensures recovered { IfOk result (λ o. IsOpenOn (devices_now D.told D.faults opened.old.logs.items devices.old.items) (devices_now D.told D.faults opened.new.logs.items devices.new.items)
-        opened.new.logs.items opened.new.found o) }
+    ensures recovered { IfOk result (λ (f : Folded). IsOpenOn (devices_now D.told D.faults opened.old.logs.items devices.old.items) (devices_now D.told D.faults opened.new.logs.items devices.new.items)
+        opened.new.logs.items opened.new.found f) }
     ensures refused { IfErr result (λ no. IsEnded (devices_now D.told D.faults opened.old.logs.items devices.old.items) (devices_now D.told D.faults opened.new.logs.items devices.new.items) no) }
     ensures four { vec_len opened.new.logs + vec_len devices.new ≡ 4 }
     ensures room { 4 ≤ vec_capacity devices.new }
 {
     match open_and_read(alloc, devices, opened) {
-        Ok(logs) => recover_records(alloc, logs.as_slice()),
+        Ok(logs) => fold_records(alloc, logs),
         Err(no) => Err(no),
     }
 }

@@ -1,10 +1,12 @@
 //! Why logs are not opened, or give no opening.
 ghost use Rattle.std.specs.Prelude.{◌≡◌, List};
 ghost use Rattle.txn_records.specs.declared.records.Record.{Record};
-ghost use Rattle.snap_recover.specs.Refusals.{IsRefused};
-ghost use Rattle.log_opening.specs.Found.{IsNoRecovery, no_of_opening};
+ghost use Rattle.log_compact.specs.declared.refusals.FoldNo.TheVariants as fold;
+ghost use Rattle.log_compact.specs.Refusals.{IsNotFolded};
+ghost use Rattle.log_opening.specs.Found.{IsNoFold, no_of_opening};
 
 use gate_log::OpenNo;
+use log_compact::FoldNo;
 use snap_recover::{LogCause, RecoverNo};
 
 /// Why logs are not opened, or give no opening. `Refused` says what a log holds that is refused, and no other call was
@@ -46,9 +48,26 @@ pub fn of_opening(no: OpenNo, log: u8) -> LogsNo
     }
 }
 
-/// Why logs give no opening, where their records recover to nothing.
-pub(crate) fn of_recovery(no: RecoverNo) -> LogsNo
-    ensures { (logs : List (List Record)) → IsRefused logs no → IsNoRecovery logs result }
+/// Why logs give no opening, where their records fold to nothing.
+pub(crate) fn of_fold(no: FoldNo) -> LogsNo
+    ensures { (logs : List (List Record)) → IsNotFolded logs no → IsNoFold logs result }
+{
+    let (log, cause) = match no {
+        FoldNo::Stray { log } => (log, LogCause::Stray),
+        FoldNo::Range { key, log } => (log, LogCause::Range { key }),
+        FoldNo::Recover(why) => return of_recovery(why),
+        FoldNo::Memory => return LogsNo::Memory,
+    };
+    LogsNo::Refused {
+        log,
+        offset: 0,
+        cause,
+    }
+}
+
+/// Why logs give no opening, where their records recover to nothing once the checkpoint's states are Genesis's.
+fn of_recovery(no: RecoverNo) -> LogsNo
+    ensures { (logs : List (List Record)) → IsNotFolded logs (fold.Recover no) → IsNoFold logs result }
 {
     let (log, cause) = match no {
         RecoverNo::NoGenesis => (0, LogCause::NoGenesis),

@@ -17,25 +17,27 @@ use Rattle.protocol_records.specs.Crash.{members}
 use Rattle.protocol_records.specs.SeveralRuns.{CutRun, logs_left}
 use Rattle.txn_records.specs.declared.records.Record.{Record}
 use Rattle.snap_recover.specs.declared.openings.Opening.{Opening}
-use Rattle.snap_recover.specs.Opening.{IsRecovered}
+use Rattle.compact_laws.specs.log_compact.declared.folds.Folded.{Folded}
+use Rattle.compact_laws.specs.log_compact.Sets.{IsFolded}
+use Rattle.compact_laws.specs.Steps.{fold_after}
 use Rattle.recovery_laws.specs.Grown.{grown, PlacedResult, answers_of, all_in, BeginsWith, opening_after}
 use Rattle.machine_laws.specs.Meant.{IsAsMeant, meant_run}
 use Rattle.machine_laws.specs.Programs.{IsTextOf, with_code, finish_of}
 
--- At every moment of every run of every text of the program, on logs that recover to its opening, whatever they are left with.
-abbrev pub AtEveryMomentOnLogsOf : List CheckedMethod → (Fixed Rest → (Rest → List State → Alone) → List (List Record) → Opening → Machine Rest → History → (ℕ → List LogRecord) → Type 0) → Type 0
+-- At every moment of every run of every text of the program that begins with what its logs fold to, whatever they are left with.
+abbrev pub AtEveryMomentOnLogsOf : List CheckedMethod → (Fixed Rest → (Rest → List State → Alone) → List (List Record) → Folded → Machine Rest → History → (ℕ → List LogRecord) → Type 0) → Type 0
 AtEveryMomentOnLogsOf p P =
-    (w : Text) (es : List Event) (m : Moment (with_code p w) es) (kept : ℕ → ℕ) (earlier : List (List Record)) (o : Opening)
+    (w : Text) (es : List Event) (m : Moment (with_code p w) es) (kept : ℕ → ℕ) (earlier : List (List Record)) (f : Folded)
     → IsTextOf p w → IsRun (with_code p w) es → IsLeft (with_code p w) es m kept
-    → length earlier ≡ w.logs → IsRecovered earlier o → BeginsWith w o
-    → P (with_code p w) (finish_of p w) earlier o (reached (with_code p w) m.events) (history (with_code p w) m.events) (left_in (reached (with_code p w) m.events) kept)
+    → length earlier ≡ w.logs → IsFolded earlier f → BeginsWith w f.opening
+    → P (with_code p w) (finish_of p w) earlier f (reached (with_code p w) m.events) (history (with_code p w) m.events) (left_in (reached (with_code p w) m.events) kept)
 
--- What the logs recover to is what the language means: the results of the members are those that they have one after the
+-- What the logs fold to is what the language means: the results of the members are those that they have one after the
 -- other in the order of their places, the values that recovery gives are these results, and the states are those that this leaves.
-pub record RecoversAsMeant (p : List CheckedMethod) (w : Fixed Rest) (finish : Rest → List State → Alone) (earlier : List (List Record)) (o : Opening) (s : Machine Rest) (h : History) (logs : ℕ → List LogRecord) : Type 0 where
+pub record RecoversAsMeant (p : List CheckedMethod) (w : Fixed Rest) (finish : Rest → List State → Alone) (earlier : List (List Record)) (f : Folded) (s : Machine Rest) (h : History) (logs : ℕ → List LogRecord) : Type 0 where
   pub results : IsAsMeant p w (members w.text.logs logs h)
   pub values : map (λ (x : PlacedResult). x.2) (flat_map answers_of (all_in w.text.logs logs s)) ≡ map Some (meant_run p w (members w.text.logs logs h)).results
-  pub states : (a : ℕ) → a < length w.text.opening.states → state_in (opening_after w o s logs).states a ≡ state_in (meant_run p w (members w.text.logs logs h)).world a
+  pub states : (a : ℕ) → a < length w.text.opening.states → state_in (fold_after w f s logs).opening.states a ≡ state_in (meant_run p w (members w.text.logs logs h)).world a
 
 -- ---- several runs
 

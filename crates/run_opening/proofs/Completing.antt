@@ -1,5 +1,5 @@
 -- Where nothing stands in the way, the run begins.
-use Rattle.std.proofs.Common.{◌≡◌, ◌≢◌, ℕ, ◌<◌, ◌≤◌, inl, inr, List, [], ◌∷◌, ℤ, zero, suc, length, take, refl, sym, ◌∙◌, subst, arith, Option}
+use Rattle.std.proofs.Common.{◌≡◌, ℕ, ◌<◌, ◌≤◌, inl, inr, List, [], ◌∷◌, ℤ, zero, suc, length, take, refl, sym, ◌∙◌, ap, subst, arith, Option}
 use Rattle.std.proofs.lemmas.List.{append_cancel_left}
 use Rattle.std.specs.Prelude.{IfSome}
 use Rattle.std.specs.List.{AllZip}
@@ -9,35 +9,36 @@ use Rattle.gate_log.specs.declared.logs.LogItem.{LogItem}
 use Rattle.gate_log.specs.declared.opens.OpenNo.TheVariants as refusal
 use Rattle.gate_log.specs.Opened.{Opened, Refused}
 use Rattle.txn_records.specs.declared.records.Record.{Record}
-use Rattle.txn_records.specs.declared.records.Record.TheVariants.{Genesis}
 use Rattle.record_log.specs.Records.{HoldsRecords, IsFirstBadIn}
 use Rattle.record_log.specs.RecordLogLaws.{OneListOfRecords, RecordsAreNotForeign, RecordsAreNotDamaged, NoRecordIsBad}
 use Rattle.snap_recover.specs.declared.openings.Opening.{Opening}
-use Rattle.snap_recover.specs.declared.refusals.RecoverNo.{RecoverNo}
 use Rattle.snap_recover.specs.declared.refusals.RecoverNo.TheVariants as recover
-use Rattle.snap_recover.specs.Opening.{IsRecovered}
-use Rattle.snap_recover.specs.Refusals.{IsRefused}
 use Rattle.snap_recover.specs.declared.causes.LogCause.{LogCause}
 use Rattle.snap_recover.specs.declared.causes.LogCause.TheVariants as cause
 use Rattle.snap_recover.specs.declared.causes.What.{What}
 use Rattle.snap_recover.specs.declared.causes.What.TheVariants.{Actors, Field}
+use Rattle.log_compact.specs.declared.folds.Folded.{Folded}
+use Rattle.log_compact.specs.declared.refusals.FoldNo.TheVariants as fold
+use Rattle.log_compact.specs.Folds.{RefusedAreNotFolded}
+use Rattle.log_compact.specs.Sets.{IsFolded, OneFold}
 use Rattle.log_opening.specs.declared.refusals.LogsNo.{LogsNo}
 use Rattle.log_opening.specs.declared.refusals.LogsNo.TheVariants as ending
 use Rattle.log_opening.specs.Devices.{Device, device_at, HoldNoOld, HoldsNoOld, HoldsOld, IsOld}
-use Rattle.log_opening.specs.Found.{IsRecoveryCause}
+use Rattle.log_opening.specs.Found.{IsFoldCause}
 use Rattle.log_opening.specs.Kept.{DeviceHolds}
 use Rattle.log_opening.specs.Counted.{AreNotRead}
 use Rattle.run_opening.specs.Begins.{IsUnspent, IsFirstSpent, GoesOn, Begins, IsFieldDifference, IsDifference, IsCause}
 use Rattle.run_opening.specs.Starts.{IsNoStart}
 use Rattle.run_opening.specs.Opens.{AreNoStart, IsNoRun, TellsRecords, MayOpen, records_at}
+use Rattle.run_opening.proofs.Starting.{began_once}
 
 pub record Laws : Type 0 where
   pub one_list : OneListOfRecords
   pub foreign : RecordsAreNotForeign
   pub damaged : RecordsAreNotDamaged
   pub bad : NoRecordIsBad
-  pub one_opening : (logs : List (List Record)) (o p : Opening) → IsRecovered logs o → IsRecovered logs p → o ≡ p
-  pub never_both : (logs : List (List Record)) (no : RecoverNo) (o : Opening) → no ≢ recover.Memory → IsRefused logs no → ¬ IsRecovered logs o
+  pub one_fold : OneFold
+  pub never_both : RefusedAreNotFolded
 
 -- ---- nothing differs from itself
 
@@ -61,37 +62,39 @@ spent_not o n u (inl x) = omega (arith, u.tid, x.0)
 spent_not o n u (inr (inl x)) = omega (arith, u.bid, x.1)
 spent_not o n u (inr (inr x)) = omega (arith, u.c, x.2)
 
-not_refused : Laws → (logs : List (List Record)) (o : Opening) (log : ℕ) (c : LogCause) → IsRecovered logs o → IsRecoveryCause logs log c → ⊥
-not_refused laws logs o log cause.NotALog on x = x
-not_refused laws logs o log cause.Damage on x = x
-not_refused laws logs o log cause.OldFormat on x = x
-not_refused laws logs o log cause.BadRecord on x = x
-not_refused laws logs o log cause.NoGenesis on x = laws.never_both logs recover.NoGenesis o (λ e. cc) x.1 on
-not_refused laws logs o log cause.TwoGenesis on x = laws.never_both logs recover.TwoGenesis o (λ e. cc) x.1 on
-not_refused laws logs o log (cause.LogCount kept found) on x = laws.never_both logs (recover.LogCount kept found) o (λ e. cc) x.1 on
-not_refused laws logs o log (cause.Range k) on x = laws.never_both logs (recover.Range k log) o (λ e. cc) x on
-not_refused laws logs o log (cause.Missing k) on x = laws.never_both logs (recover.Missing k log) o (λ e. cc) x on
-not_refused laws logs o log (cause.Values k u v) on x = laws.never_both logs (recover.Values k log u v) o (λ e. cc) x on
-not_refused laws logs o log (cause.Spent number) on x = x
-not_refused laws logs o log (cause.Differs what kept text) on x = x
+not_refused : Laws → (logs : List (List Record)) (f : Folded) (log : ℕ) (c : LogCause) → IsFolded logs f → IsFoldCause logs log c → ⊥
+not_refused laws logs f log cause.NotALog on x = x
+not_refused laws logs f log cause.Damage on x = x
+not_refused laws logs f log cause.OldFormat on x = x
+not_refused laws logs f log cause.BadRecord on x = x
+not_refused laws logs f log cause.Stray on x = laws.never_both logs (fold.Stray log) f (λ e. cc) x on
+not_refused laws logs f log cause.NoGenesis on x = laws.never_both logs (fold.Recover recover.NoGenesis) f (λ e. cc) x.1 on
+not_refused laws logs f log cause.TwoGenesis on x = laws.never_both logs (fold.Recover recover.TwoGenesis) f (λ e. cc) x.1 on
+not_refused laws logs f log (cause.LogCount kept found) on x = laws.never_both logs (fold.Recover (recover.LogCount kept found)) f (λ e. cc) x.1 on
+not_refused laws logs f log (cause.Range k) on (inl x) = laws.never_both logs (fold.Range k log) f (λ e. cc) x on
+not_refused laws logs f log (cause.Range k) on (inr x) = laws.never_both logs (fold.Recover (recover.Range k log)) f (λ e. cc) x on
+not_refused laws logs f log (cause.Missing k) on x = laws.never_both logs (fold.Recover (recover.Missing k log)) f (λ e. cc) x on
+not_refused laws logs f log (cause.Values k u v) on x = laws.never_both logs (fold.Recover (recover.Values k log u v)) f (λ e. cc) x on
+not_refused laws logs f log (cause.Spent number) on x = x
+not_refused laws logs f log (cause.Differs what kept text) on x = x
 
 no_cause : Laws → (logs : List (List Record)) (states : List State) (o : Opening) (log : ℕ) (c : LogCause) → GoesOn logs states o → IsCause logs states log c → ⊥
 no_cause laws logs states o log (cause.Spent number) on x =
-    spent_not o number on.unspent (subst (λ (p : Opening). IsFirstSpent p number) (laws.one_opening logs x.1.0 o x.1.1 on.recovered) x.1.2)
+    let same : x.1.0.opening ≡ o = ap (λ (f : Folded). f.opening) (laws.one_fold logs x.1.0 on.folded.0 x.1.1 on.folded.1) ∙ on.folded.2 in
+    spent_not o number on.unspent (subst (λ (p : Opening). IsFirstSpent p number) same x.1.2)
 no_cause laws logs states o log (cause.Differs what kept text) on x =
-    let same : Genesis (length logs) x.1.1 ∷ [] ≡ Genesis (length logs) states ∷ [] = sym x.1.4 ∙ on.same in
-    let first : x.1.1 ≡ states = cc in
-    same_states states what kept text (subst (λ (ss : List State). IsDifference ss states what kept text) first x.1.5)
+    same_states states what kept text (subst (λ (ss : List State). IsDifference ss states what kept text) (began_once logs x.1.0.first states x.1.3 on.same) x.1.4)
 no_cause laws logs states o log cause.NotALog on x = x
 no_cause laws logs states o log cause.Damage on x = x
 no_cause laws logs states o log cause.OldFormat on x = x
 no_cause laws logs states o log cause.BadRecord on x = x
-no_cause laws logs states o log cause.NoGenesis on x = not_refused laws logs o log cause.NoGenesis on.recovered x
-no_cause laws logs states o log cause.TwoGenesis on x = not_refused laws logs o log cause.TwoGenesis on.recovered x
-no_cause laws logs states o log (cause.LogCount kept found) on x = not_refused laws logs o log (cause.LogCount kept found) on.recovered x
-no_cause laws logs states o log (cause.Range k) on x = not_refused laws logs o log (cause.Range k) on.recovered x
-no_cause laws logs states o log (cause.Missing k) on x = not_refused laws logs o log (cause.Missing k) on.recovered x
-no_cause laws logs states o log (cause.Values k u v) on x = not_refused laws logs o log (cause.Values k u v) on.recovered x
+no_cause laws logs states o log cause.Stray on x = not_refused laws logs on.folded.0 log cause.Stray on.folded.1 x
+no_cause laws logs states o log cause.NoGenesis on x = not_refused laws logs on.folded.0 log cause.NoGenesis on.folded.1 x
+no_cause laws logs states o log cause.TwoGenesis on x = not_refused laws logs on.folded.0 log cause.TwoGenesis on.folded.1 x
+no_cause laws logs states o log (cause.LogCount kept found) on x = not_refused laws logs on.folded.0 log (cause.LogCount kept found) on.folded.1 x
+no_cause laws logs states o log (cause.Range k) on x = not_refused laws logs on.folded.0 log (cause.Range k) on.folded.1 x
+no_cause laws logs states o log (cause.Missing k) on x = not_refused laws logs on.folded.0 log (cause.Missing k) on.folded.1 x
+no_cause laws logs states o log (cause.Values k u v) on x = not_refused laws logs on.folded.0 log (cause.Values k u v) on.folded.1 x
 
 no_start : Laws → (logs : List (List Record)) (states : List State) (o : Opening) (answer : LogsNo) → Begins logs states o → IsNoStart logs states answer → answer ≡ ending.Memory
 no_start laws logs states o (ending.Refused log offset c) (inl fresh) why = absurd (why.1 fresh.0)
@@ -159,6 +162,7 @@ module _ (laws : Laws) (count : ℕ) (states : List State) (before after : List 
       absurd (never_old (device_at before log) (records_at records log) (told log why.1.asked) (recent_at count log before why.1.asked (omega (arith, why.1.asked, few)) may.recent) why.1.old)
   read_well (ending.Refused log offset cause.BadRecord) why =
       absurd (decodes laws (device_at before log) why.bad.2.0 (records_at records log) why.bad.0 offset why.bad.1 (told log why.asked) why.bad.2.1 why.bad.3)
+  read_well (ending.Refused log offset cause.Stray) why = absurd why
   read_well (ending.Refused log offset cause.NoGenesis) why = absurd why
   read_well (ending.Refused log offset cause.TwoGenesis) why = absurd why
   read_well (ending.Refused log offset (cause.LogCount k f)) why = absurd why

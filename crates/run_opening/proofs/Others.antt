@@ -26,6 +26,7 @@ others_unread count before after (ending.Refused log offset cause.NotALog) why =
 others_unread count before after (ending.Refused log offset cause.Damage) why = further (log + 1) count before after (omega (arith, why.asked)) why.reached.above
 others_unread count before after (ending.Refused log offset cause.OldFormat) why = why.1.others
 others_unread count before after (ending.Refused log offset cause.BadRecord) why = why.begun.others
+others_unread count before after (ending.Refused log offset cause.Stray) why = absurd why
 others_unread count before after (ending.Refused log offset cause.NoGenesis) why = absurd why
 others_unread count before after (ending.Refused log offset cause.TwoGenesis) why = absurd why
 others_unread count before after (ending.Refused log offset (cause.LogCount k f)) why = absurd why

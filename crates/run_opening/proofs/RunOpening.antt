@@ -17,7 +17,9 @@ use Rattle.record_log.specs.Growth.{MayAppendGroup, GrewBy}
 use Rattle.record_log.specs.Records.{spelled, AreItemsOf, KeepsRecords}
 use Rattle.snap_recover.specs.declared.openings.Opening.{Opening}
 use Rattle.snap_recover.specs.Logs.{all_of, is_genesis, geneses}
-use Rattle.snap_recover.specs.Opening.{IsRecovered}
+use Rattle.log_compact.specs.declared.folds.Folded.{Folded}
+use Rattle.log_compact.specs.Folds.{BegunListsFold, FoldsAreBegun, FoldsAreOfRecords, fresh_fold}
+use Rattle.log_compact.specs.Sets.{IsFolded}
 use Rattle.log_opening.specs.declared.refusals.LogsNo.{LogsNo}
 use Rattle.log_opening.specs.declared.refusals.LogsNo.TheVariants as ending
 use Rattle.log_opening.specs.Devices.{Device, device_at, devices_of, as_device, AreBegun, HoldNoOld, IsBegun}
@@ -25,30 +27,31 @@ use Rattle.log_opening.specs.Found.{IsReadyLog, IsTouched, IsHandled}
 use Rattle.log_opening.specs.Kept.{DeviceHolds}
 use Rattle.log_opening.specs.Counted.{AreOpenWith, AreNotRead}
 use Rattle.run_opening.specs.declared.limits.TheConstants.{LARGEST_START}
-use Rattle.run_opening.specs.Begins.{AreEmpty, fresh_opening, IsUnspent, Begins}
+use Rattle.run_opening.specs.Begins.{AreEmpty, IsUnspent, GoesOn, Begins}
 use Rattle.run_opening.specs.Starts.{first_record, IsStart, IsNoStart}
 use Rattle.run_opening.specs.Opens.{HasRoomToBegin, IsRunLog, FailsFirst, IsNoRun, KeepsOrAdds, AreSafe, with_first, first_groups, records_at}
 use Rattle.run_opening.specs.Writes.{IsWritten, IsNotWritten, HasOpenedRun, HasOpenedNoRun}
 use Rattle.run_opening.proofs.RunLogs.{LogLaws, run_logs, written_log, written_safely, nothing_added}
-use Rattle.run_opening.proofs.Starting.{StatesRecovered, starts_with_states, added_are}
-
--- what the law begun_logs_are_recovered of snap_recover says
-abbrev pub BegunRecovered : Type 0
-BegunRecovered = (count : ℕ) (others : List (List Record)) (states : List State) → count ≡ length others + 1 → AllByRecursion (λ (rs : List Record). rs ≡ []) others
-    → IsRecovered ((Genesis count states ∷ []) ∷ others) (fresh_opening states)
+use Rattle.run_opening.proofs.Starting.{starts_with_states, added_are}
 
 -- ---- the opening
 
--- what the logs hold when the run begins recovers to the opening
-pub recovers_now : BegunRecovered → (logs : List (List Record)) (states : List State) (o : Opening) (added : List Record) → 1 ≤ length logs → IsStart logs states o added → IsRecovered (with_first logs added) o
-recovers_now law [] states o added some start = absurd (omega (arith, some))
-recovers_now law (rs ∷ logs) states o added some (inl new) =
+-- the records fold to the opening
+abbrev pub FoldTo : List (List Record) → Opening → Type 0
+FoldTo logs o = (f : Folded) × IsFolded logs f × (f.opening ≡ o)
+
+-- what the logs hold when the run begins folds to the opening
+pub folds_now : BegunListsFold → (logs : List (List Record)) (states : List State) (o : Opening) (added : List Record) → 1 ≤ length logs → IsStart logs states o added → FoldTo (with_first logs added) o
+folds_now law [] states o added some start = absurd (omega (arith, some))
+folds_now law (rs ∷ logs) states o added some (inl new) =
     let size : length (rs ∷ logs) ≡ length logs + 1 = omega arith in
-    let here : rs ++ added ≡ Genesis (length (rs ∷ logs)) states ∷ [] = ap (λ (l : List Record). l ++ added) new.0.0 ∙ new.2 in
-    subst (λ (l : List Record). IsRecovered (l ∷ logs) o) (sym here)
-    (subst (λ (p : Opening). IsRecovered ((Genesis (length (rs ∷ logs)) states ∷ []) ∷ logs) p) (sym new.1) (law (length (rs ∷ logs)) logs states size new.0.1))
-recovers_now law (rs ∷ logs) states o added some (inr on) =
-    subst (λ (l : List Record). IsRecovered (l ∷ logs) o) (sym (ap (λ (l : List Record). rs ++ l) on.1 ∙ append-nil rs)) on.0.recovered
+    let here : rs ++ added ≡ Genesis (length (rs ∷ logs)) states ∷ [] = ap (λ (l : List Record). l ++ added) new.0.0 ∙ new.2 in (
+      fresh_fold states,
+      subst (λ (l : List Record). IsFolded (l ∷ logs) (fresh_fold states)) (sym here) (law (length (rs ∷ logs)) logs states size new.0.1),
+      sym new.1,
+    )
+folds_now law (rs ∷ logs) states o added some (inr on) =
+    subst (λ (l : List Record). FoldTo (l ∷ logs) o) (sym (ap (λ (l : List Record). rs ++ l) on.1 ∙ append-nil rs)) on.0.folded
 
 -- ---- it begins again
 
@@ -60,7 +63,7 @@ pub no_geneses : (logs : List (List Record)) → AreEmpty logs → all_of logs �
 no_geneses [] empty = refl
 no_geneses (rs ∷ logs) empty = ap (λ (l : List Record). l ++ all_of logs) empty.0 ∙ no_geneses logs empty.1
 
-pub begins_written : BegunRecovered → (logs : List (List Record)) (states : List State) (o : Opening) (added : List Record) → 1 ≤ length logs → IsStart logs states o added → Begins (with_first logs added) states o
+pub begins_written : BegunListsFold → (logs : List (List Record)) (states : List State) (o : Opening) (added : List Record) → 1 ≤ length logs → IsStart logs states o added → Begins (with_first logs added) states o
 begins_written law [] states o added some start = absurd (omega (arith, some))
 begins_written law (rs ∷ logs) states o added some (inl new) =
     let first : Record = Genesis (length (rs ∷ logs)) states in
@@ -68,7 +71,7 @@ begins_written law (rs ∷ logs) states o added some (inl new) =
     let one : geneses ((first ∷ []) ∷ logs) ≡ first ∷ [] = ap (λ (l : List Record). first ∷ filter is_genesis l) (no_geneses logs new.0.1) in
     inr (record {
       some = λ empty. (let none : first ∷ [] ≡ [] = sym here ∙ empty.0 in cc);
-      recovered = recovers_now law (rs ∷ logs) states o added some (inl new);
+      folded = folds_now law (rs ∷ logs) states o added some (inl new);
       same = subst (λ (l : List Record). geneses (l ∷ logs) ≡ first ∷ []) (sym here) one;
       unspent = subst IsUnspent (sym new.1) (record { tid = omega arith; bid = omega arith; c = omega arith });
     })
@@ -87,11 +90,19 @@ unspent_room o unspent tid bid c = record {
   cs = omega (arith, unspent.c);
 }
 
-pub start_room : (logs : List (List Record)) (states : List State) (o : Opening) (added : List Record) → IsStart logs states o added → HasRoomToBegin o
-start_room logs states o added (inl new) =
+goes_on_room : FoldsAreBegun → (logs : List (List Record)) (states : List State) (o : Opening) → GoesOn logs states o → HasRoomToBegin o
+goes_on_room begun logs states o on =
+    let is = begun logs on.folded.0 on.folded.1 in
+    let same = on.folded.2 in
+    unspent_room o on.unspent
+    (subst (λ (p : Opening). 1 ≤ p.next_tid.0) same is.some_tid)
+    (subst (λ (p : Opening). 1 ≤ p.next_bid.0) same is.some_bid)
+    (subst (λ (p : Opening). 1 ≤ p.next_c) same is.some_c)
+
+pub start_room : FoldsAreBegun → (logs : List (List Record)) (states : List State) (o : Opening) (added : List Record) → IsStart logs states o added → HasRoomToBegin o
+start_room begun logs states o added (inl new) =
     subst HasRoomToBegin (sym new.1) (record { some_tid = omega arith; some_bid = omega arith; some_c = omega arith; tids = omega arith; bids = omega arith; cs = omega arith })
-start_room logs states o added (inr on) =
-    unspent_room o on.0.unspent (omega (arith, on.0.recovered.next_tid)) (omega (arith, on.0.recovered.next_bid)) (omega (arith, on.0.recovered.next_c))
+start_room begun logs states o added (inr on) = goes_on_room begun logs states o on.0
 
 -- ---- devices
 
@@ -132,8 +143,9 @@ safe_with count states b a bs ms logs o added size held (inr on) keeps others =
 
 pub record Laws : Type 0 where
   pub logs : LogLaws
-  pub states : StatesRecovered
-  pub begun : BegunRecovered
+  pub of_records : FoldsAreOfRecords
+  pub begun : FoldsAreBegun
+  pub fresh : BegunListsFold
 
 -- ---- what is asked of writing to log 0
 
@@ -187,7 +199,7 @@ begun_first laws count states b bs l k ls others f fs rs rss o added size lie ar
     let first : IsRunLog b l l.end rs [] = run_logs laws.logs (b ∷ bs) others (l ∷ ls) (f ∷ fs) logs lie.are_begun lie.ready lie.second lie.items 0 (omega arith) in
     let log : (n : ℕ) → n < length logs → (end : ℕ) × IsRunLog (device_at (b ∷ bs) n) (log_at (k ∷ ls) n) end (records_at logs n) (first_groups n added) =
     begun_logs laws.logs b bs l k ls others f fs rs rss added lie first w in
-    let states_are = starts_with_states laws.states logs states o added lie.each are start in
+    let states_are = starts_with_states laws.of_records laws.begun logs states o added lie.each are start in
     record {
       opens = (
         logs,
@@ -200,10 +212,10 @@ begun_first laws count states b bs l k ls others f fs rs rss o added size lie ar
           recent = subst (λ (n : ℕ). HoldNoOld n (b ∷ bs)) (sym as_found) lie.recent;
           as_many = sym as_ready ∙ sym as_found;
           log = log;
-          recovers = recovers_now laws.begun logs states o added (omega arith) start;
+          folds = folds_now laws.fresh logs states o added (omega arith) start;
         },
       );
-      room = start_room logs states o added start;
+      room = start_room laws.begun logs states o added start;
       actors = states_are.0;
       kept = states_are.1;
       ends = λ n lt. begun_ends laws.logs b bs l k ls others f fs rs rss added lie first w n (omega (arith, lt, many));

@@ -6,12 +6,13 @@ use Rattle.txn_records.specs.declared.records.Record.{Record}
 use Rattle.txn_records.specs.declared.records.Record.TheVariants.{Genesis}
 use Rattle.snap_recover.specs.declared.openings.Opening.{Opening}
 use Rattle.snap_recover.specs.Logs.{geneses}
-use Rattle.snap_recover.specs.Opening.{IsRecovered}
+use Rattle.log_compact.specs.declared.folds.Folded.{Folded}
+use Rattle.log_compact.specs.Sets.{IsFolded}
 use Rattle.snap_recover.specs.declared.causes.LogCause.{LogCause}
 use Rattle.snap_recover.specs.declared.causes.LogCause.TheVariants as cause
 use Rattle.snap_recover.specs.declared.causes.What.{What}
 use Rattle.snap_recover.specs.declared.causes.What.TheVariants.{Actors, Field}
-use Rattle.log_opening.specs.Found.{IsRecoveryCause}
+use Rattle.log_opening.specs.Found.{IsFoldCause}
 use Rattle.log_opening.specs.Kept.{IsSaid}
 use Rattle.run_opening.specs.declared.comparisons.TheConstants.{GREATEST_TO_BEGIN}
 
@@ -39,10 +40,10 @@ AreOfRuns logs = AreEmpty logs ⊎ IsSaid logs
 abbrev pub BeganWith : List (List Record) → List State → Type 0
 BeganWith logs states = geneses logs ≡ Genesis (length logs) states ∷ []
 
--- the records recover to the opening, and began with the text's states
+-- the records fold to the opening, and began with the text's states
 pub record GoesOn (logs : List (List Record)) (states : List State) (o : Opening) : Type 0 where
   pub some : ¬ AreEmpty logs
-  pub recovered : IsRecovered logs o
+  pub folded : (f : Folded) × IsFolded logs f × (f.opening ≡ o)
   pub same : BeganWith logs states
   pub unspent : IsUnspent o
 
@@ -75,17 +76,18 @@ IsDifference kept text (Field actor field) k t =
 
 -- why a run of a text with these states does not go on from the records
 abbrev pub IsCause : List (List Record) → List State → ℕ → LogCause → Type 0
-IsCause logs states log (cause.Spent number) = (log ≡ 0) × ((o : Opening) × IsRecovered logs o × IsFirstSpent o number)
+IsCause logs states log (cause.Spent number) = (log ≡ 0) × ((f : Folded) × IsFolded logs f × IsFirstSpent f.opening number)
 IsCause logs states log (cause.Differs what kept text) =
-    (log ≡ 0) × ((o : Opening) × (first : List State)
-    × IsRecovered logs o × IsUnspent o × BeganWith logs first × IsDifference first states what kept text)
+    (log ≡ 0) × ((f : Folded)
+    × IsFolded logs f × IsUnspent f.opening × BeganWith logs f.first × IsDifference f.first states what kept text)
 IsCause logs states log cause.NotALog = ⊥
 IsCause logs states log cause.Damage = ⊥
 IsCause logs states log cause.OldFormat = ⊥
 IsCause logs states log cause.BadRecord = ⊥
-IsCause logs states log cause.NoGenesis = IsRecoveryCause logs log cause.NoGenesis
-IsCause logs states log cause.TwoGenesis = IsRecoveryCause logs log cause.TwoGenesis
-IsCause logs states log (cause.LogCount kept found) = IsRecoveryCause logs log (cause.LogCount kept found)
-IsCause logs states log (cause.Range k) = IsRecoveryCause logs log (cause.Range k)
-IsCause logs states log (cause.Missing k) = IsRecoveryCause logs log (cause.Missing k)
-IsCause logs states log (cause.Values k u v) = IsRecoveryCause logs log (cause.Values k u v)
+IsCause logs states log cause.Stray = IsFoldCause logs log cause.Stray
+IsCause logs states log cause.NoGenesis = IsFoldCause logs log cause.NoGenesis
+IsCause logs states log cause.TwoGenesis = IsFoldCause logs log cause.TwoGenesis
+IsCause logs states log (cause.LogCount kept found) = IsFoldCause logs log (cause.LogCount kept found)
+IsCause logs states log (cause.Range k) = IsFoldCause logs log (cause.Range k)
+IsCause logs states log (cause.Missing k) = IsFoldCause logs log (cause.Missing k)
+IsCause logs states log (cause.Values k u v) = IsFoldCause logs log (cause.Values k u v)

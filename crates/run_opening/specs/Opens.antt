@@ -16,7 +16,8 @@ use Rattle.record_log.specs.Growth.{all_records, end_behind_groups, GrewBy}
 use Rattle.record_log.specs.Records.{HoldsRecords, RecordLog, KeepsRecords}
 use Rattle.snap_recover.specs.declared.openings.Opening.{Opening}
 use Rattle.snap_recover.specs.declared.ranges.TheConstants.{GREATEST_NUMBER}
-use Rattle.snap_recover.specs.Opening.{IsRecovered}
+use Rattle.log_compact.specs.declared.folds.Folded.{Folded}
+use Rattle.log_compact.specs.Sets.{IsFolded}
 use Rattle.log_opening.specs.declared.refusals.LogsNo.{LogsNo}
 use Rattle.log_opening.specs.declared.refusals.LogsNo.TheVariants as ending
 use Rattle.log_opening.specs.Devices.{Device, device_at, AreBegun, HoldNoOld, IsBegun}
@@ -80,8 +81,8 @@ pub record OpensRun (before : List Device) (logs : List LogState) (states : List
   pub as_many : length logs ≡ length records
   pub log : (n : ℕ) → n < length records
       → (end : ℕ) × IsRunLog (device_at before n) (log_at logs n) end (records_at records n) (first_groups n added)
-  -- what they hold now recovers to the opening
-  pub recovers : IsRecovered (with_first records added) o
+  -- what they hold now folds to the opening
+  pub folds : (f : Folded) × IsFolded (with_first records added) f × (f.opening ≡ o)
 
 -- ---- no run begins
 

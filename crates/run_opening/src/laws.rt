@@ -9,7 +9,7 @@ ghost use Rattle.run_opening.specs.Begins.{Begins};
 ghost use Rattle.run_opening.specs.Starts.{IsStart};
 ghost use Rattle.run_opening.specs.Opens.{IsNoRun, with_first};
 
-use snap_recover::begun_logs_are_recovered;
+use log_compact::begun_lists_fold;
 
 /// Where a run begins, a run of the same text would begin again with the same opening, whether what is to be written
 /// before it is written by then or not.
@@ -17,7 +17,7 @@ pub fn begins_again()
     ensures unwritten { (logs : List (List Record)) (states : List State) (o : Opening) (added : List Record) → IsStart logs states o added → Begins logs states o }
     ensures written { (logs : List (List Record)) (states : List State) (o : Opening) (added : List Record) → 1 ≤ length logs → IsStart logs states o added → Begins (with_first logs added) states o }
 {
-    begun_logs_are_recovered();
+    begun_lists_fold();
 }
 
 /// Where no run begins, whatever the answer is, the devices behind its logs got no call.

@@ -1,4 +1,4 @@
-//! What a run begins with: its logs are opened, decoded and recovered, what they began with is compared with the work
+//! What a run begins with: its logs are opened, decoded and folded, what they began with is compared with the work
 //! text, and Genesis is written where no log has a record yet. `open_run` does it on devices, for one to four logs, and
 //! `start_from` on lists of records; what is said of devices is said by the records that they hold, before and after.
 #![tactic(auto)]

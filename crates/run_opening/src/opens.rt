@@ -13,6 +13,9 @@ ghost use Rattle.run_opening.specs.Writes.{IsWritten, IsNotWritten, HasOpenedRun
 use crate::limits::LARGEST_START;
 use crate::starts::{Start, start_from};
 use gate_log::{AppendNo, FARTHEST_END, Log, beginning_is_safe, one_reading, opening_is_safe};
+use log_compact::{
+    begun_lists_fold, folds_are_begun, folds_are_of_records, one_fold, refused_are_not_folded,
+};
 use log_opening::{LogsNo, OpenLogs, close, no_call_is_safe, no_logs, open_and_decode};
 use record_log::{
     append_records, few_may_be_appended, history_grows, no_more_records, one_list_of_records,
@@ -20,9 +23,7 @@ use record_log::{
 };
 use snap_base::State;
 use snap_outside::LogDev;
-use snap_recover::{
-    Opening, begun_logs_are_recovered, one_opening, recovered_states, refused_is_not_recovered,
-};
+use snap_recover::Opening;
 use std::alloc::Global;
 use txn_records::Record;
 
@@ -31,7 +32,7 @@ const FIRST: u8 = 0;
 
 /// Opens the logs of a run whose text says that there are so many, and gives the actors these states. All are opened,
 /// from log 0 on; those of format 1 that have no item are upgraded, and the first other one is refused; then all are decoded;
-/// then what they hold is recovered and compared with the text; then Genesis is written to log 0, where no log holds a
+/// then what they hold is folded, so that a checkpoint counts, and compared with the text; then Genesis is written to log 0, where no log holds a
 /// record. The logs are ready for the run's records. Their devices are the first ones of these and leave them; `close` of
 /// `log_opening` puts them back. Where no run begins they are back already, and each device is in its place.
 pub fn open_run<D: LogDev>(
@@ -46,7 +47,7 @@ pub fn open_run<D: LogDev>(
     requires some { 1 ≤ length states.now }
     requires few { length states.now ≤ MOST_LISTED }
     requires states { AllByRecursion IsState states.now }
-    // The run begins with what the records of its logs recover to, or with the text's states.
+    // The run begins with what the records of its logs fold to, or with the text's states.
     ensures opens { IfOk result (λ x. (records : List (List Record)) × (added : List Record) × (length records ≡ count)
         × OpensRun (devices_of D.told D.faults devices.old.items) x.0.items states.now x.1 records added) }
     ensures room { IfOk result (λ x. HasRoomToBegin x.1) }
@@ -74,8 +75,8 @@ pub fn open_run<D: LogDev>(
     no_call_is_safe();
     one_list_of_records();
     no_more_records();
-    one_opening();
-    refused_is_not_recovered();
+    one_fold();
+    refused_are_not_folded();
     let Ok(mut opened) = no_logs(alloc, devices.len()) else {
         return Err(LogsNo::Memory);
     };
@@ -123,13 +124,14 @@ fn begin_on<D: LogDev>(
     opened_holds();
     history_grows();
     one_list_of_records();
-    recovered_states();
-    begun_logs_are_recovered();
+    folds_are_of_records();
+    folds_are_begun();
+    begun_lists_fold();
     let records = match open_and_decode(alloc, devices, opened, count as usize) {
         Ok(records) => records,
         Err(no) => return Err(no),
     };
-    let Start { opening, added } = match start_from(alloc, records.as_slice(), states) {
+    let Start { opening, added } = match start_from(alloc, records, states) {
         Ok(start) => start,
         Err(no) => return Err(no),
     };

@@ -1,14 +1,16 @@
 //! What a run begins with, from the records of its logs.
-ghost use Rattle.std.specs.Prelude.{◌≡◌, ◌≤◌, [], ◌∷◌, length, IsTrue, ◌↔◌, IfOk, MatchOption, MatchResult};
+ghost use Rattle.std.specs.Prelude.{◌≡◌, ◌≤◌, List, [], ◌∷◌, length, IsTrue, ◌↔◌, IfOk, MatchOption, MatchResult};
 ghost use Rattle.txn_records.specs.declared.limits.TheConstants.{MOST_LISTED};
-ghost use Rattle.snap_recover.specs.Opening.{IsRecovered};
+ghost use Rattle.txn_records.specs.declared.records.Record.{Record};
+ghost use Rattle.log_compact.specs.Sets.{IsFolded};
 ghost use Rattle.run_opening.specs.Begins.{AreEmpty, IsUnspent, BeganWith, GoesOn, IsCause, fresh_opening};
 ghost use Rattle.run_opening.specs.Starts.{IsStart, IsNoStart, first_record};
 
 use crate::comparisons::{compare_states, spent};
-use log_opening::{LogsNo, recover_records};
+use log_compact::{Folded, folds_are_begun};
+use log_opening::{LogsNo, fold_records};
 use snap_base::{Memory, Sequence, State};
-use snap_recover::{LogCause, Opening, first_genesis, fresh};
+use snap_recover::{LogCause, Opening, fresh};
 use std::alloc::Global;
 use txn_records::Record;
 
@@ -25,14 +27,14 @@ pub struct Start {
 /// not begin.
 pub fn start_from(
     alloc: Global,
-    logs: &[Sequence<Record>],
+    logs: Sequence<Sequence<Record>>,
     states: &[State],
 ) -> Result<Start, LogsNo>
-    requires logs { length logs.now ≤ 4 }
+    requires logs { length logs ≤ 4 }
     requires few { length states.now ≤ MOST_LISTED }
-    ensures { MatchResult result (λ s. IsStart logs.now states.now s.opening s.added) (λ no. IsNoStart logs.now states.now no) }
+    ensures { MatchResult result (λ s. IsStart logs states.now s.opening s.added) (λ no. IsNoStart logs states.now no) }
 {
-    if all_empty(logs) {
+    if all_empty(logs.as_slice()) {
         return match first_start(alloc, logs.len() as u8, states) {
             Ok(start) => Ok(start),
             Err(Memory) => Err(LogsNo::Memory),
@@ -74,39 +76,44 @@ fn first_start(alloc: Global, logs: u8, states: &[State]) -> Result<Start, Memor
 }
 
 /// What a run of a text with these states goes on with from the records of the logs.
-fn go_on(alloc: Global, logs: &[Sequence<Record>], states: &[State]) -> Result<Opening, LogsNo>
-    requires some { ¬ AreEmpty logs.now }
+fn go_on(
+    alloc: Global,
+    logs: Sequence<Sequence<Record>>,
+    states: &[State],
+) -> Result<Opening, LogsNo>
+    requires some { ¬ AreEmpty logs }
     requires few { length states.now ≤ MOST_LISTED }
-    ensures { MatchResult result (λ o. GoesOn logs.now states.now o) (λ no. IsNoStart logs.now states.now no) }
+    ensures { MatchResult result (λ o. GoesOn logs states.now o) (λ no. IsNoStart logs states.now no) }
 {
-    let opening = match recover_records(alloc, logs) {
-        Ok(opening) => opening,
+    let folded = match fold_records(alloc, logs) {
+        Ok(folded) => folded,
         Err(no) => return Err(no),
     };
-    match objection(&opening, logs, states) {
+    match objection(&folded, states) {
         Some(cause) => Err(LogsNo::Refused {
             log: 0,
             offset: 0,
             cause,
         }),
-        None => Ok(opening),
+        None => Ok(folded.opening),
     }
 }
 
-/// Why a run of a text with these states does not go on from what the records of its logs recover to.
-fn objection(opening: &Opening, logs: &[Sequence<Record>], states: &[State]) -> Option<LogCause>
-    requires recovered { IsRecovered logs.now opening.now }
+/// Why a run of a text with these states does not go on from what the records of its logs fold to.
+fn objection(folded: &Folded, states: &[State]) -> Option<LogCause>
     requires few { length states.now ≤ MOST_LISTED }
-    ensures { MatchOption result (BeganWith logs.now states.now × IsUnspent opening.now) (IsCause logs.now states.now 0) }
+    ensures { (logs : List (List Record)) → IsFolded logs folded.now → MatchOption result (BeganWith logs states.now × IsUnspent folded.now.opening) (IsCause logs states.now 0) }
 {
-    if let Some(number) = spent(opening) {
+    folds_are_begun();
+    if let Some(number) = spent(&folded.opening) {
         return Some(LogCause::Spent { number });
     }
-    let (_, first) = first_genesis(logs)?;
-    let d = compare_states(first.as_slice(), states)?;
-    Some(LogCause::Differs {
-        what: d.what,
-        kept: d.kept,
-        text: d.text,
-    })
+    match compare_states(folded.first.as_slice(), states) {
+        Some(d) => Some(LogCause::Differs {
+            what: d.what,
+            kept: d.kept,
+            text: d.text,
+        }),
+        None => None,
+    }
 }

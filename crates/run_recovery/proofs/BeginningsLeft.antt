@@ -7,11 +7,13 @@ use Rattle.run_effects.specs.Driven.{tried_on}
 use Rattle.snap_base.specs.declared.transactions.State.{State}
 use Rattle.record_log.specs.gate_log.Opened.{Opened, beginning_ops}
 use Rattle.run_opening.specs.log_opening.Devices.{device_at}
+use Rattle.machine_recovery.specs.compact_laws.log_compact.declared.folds.Folded.{Folded}
+use Rattle.machine_recovery.specs.compact_laws.log_compact.Sets.{IsFolded}
 use Rattle.record_log.specs.Growth.{GrewBy, HoldsWhole, IsGrowth, Leaves, LeavesGroups, MayAppendGroups, all_records, groups_ops}
 use Rattle.record_log.specs.GrowthLaws.{GrowthKeeps}
 use Rattle.record_log.specs.Records.{HoldsRecords, spelled}
 use Rattle.record_log.specs.gate_log.Appends.{end_behind}
-use Rattle.run_opening.specs.Begins.{AreOfRuns, Begins}
+use Rattle.run_opening.specs.Begins.{AreEmpty, AreOfRuns, Begins}
 use Rattle.run_opening.specs.Opens.{first_groups, records_at, with_first}
 use Rattle.run_opening.specs.Starts.{IsStart}
 use Rattle.run_effects.specs.Groups.{group_behind, groups_of}
@@ -123,11 +125,12 @@ abbrev pub Written : Type 0
 Written = (logs : List (List Record)) (states : List State) (o : Opening) (added : List Record) → 1 ≤ length logs → IsStart logs states o added → Begins (with_first logs added) states o
 
 -- which records all logs are left with
-record AllLeft (count : ℕ) (records : List (List Record)) (states : List State) (o : Opening) (images : ℕ → List ℕ) : Type 0 where
+record AllLeft (count : ℕ) (records : List (List Record)) (states : List State) (o : Opening) (f : Folded) (images : ℕ → List ℕ) : Type 0 where
   kept : List (List Record)
   which : KeepsOrBegins (length records) states records kept
   holds : HoldEach count images kept
   begins : Begins kept states o
+  folds : ¬ AreEmpty kept → IsFolded kept f
   said : AreOfRuns records → AreOfRuns kept
 
 -- on the logs behind log 0
@@ -139,20 +142,21 @@ nothing_left : (l : ℕ) (rs added : List Record) (image : List ℕ) → added �
 nothing_left l rs added image none (inl held) = held
 nothing_left l rs added image none (inr more) = subst (HoldsRecords image) (ap (λ xs. rs ++ xs) none ∙ append-nil rs) more.1
 
-all_left : Unwritten → Written → (count : ℕ) (records : List (List Record)) (states : List State) (o : Opening) (added : List Record) (images : ℕ → List ℕ) → 1 ≤ count → length records ≡ count → IsStart records states o added
-    → ((l : ℕ) → l < count → Left l (records_at records l) added (images l)) → AllLeft count records states o images
-all_left unwritten written count [] states o added images some many start left = absurd (omega (arith, some, many))
-all_left unwritten written count (rs ∷ rss) states o added images some many (inr on) left = record {
+all_left : Unwritten → Written → (count : ℕ) (records : List (List Record)) (states : List State) (o : Opening) (f : Folded) (added : List Record) (images : ℕ → List ℕ) → 1 ≤ count → length records ≡ count → IsStart records states o added → IsFolded (with_first records added) f
+    → ((l : ℕ) → l < count → Left l (records_at records l) added (images l)) → AllLeft count records states o f images
+all_left unwritten written count [] states o f added images some many start folded left = absurd (omega (arith, some, many))
+all_left unwritten written count (rs ∷ rss) states o f added images some many (inr on) folded left = record {
   kept = rs ∷ rss;
   which = inl refl;
   holds = λ l lt. nothing_left l (records_at (rs ∷ rss) l) added (images l) on.1 (left l lt);
   begins = unwritten (rs ∷ rss) states o added (inr on);
+  folds = λ filled. subst (λ (l : List Record). IsFolded (l ∷ rss) f) (ap (λ (l : List Record). rs ++ l) on.1 ∙ append-nil rs) folded;
   said = λ own. own;
 }
-all_left unwritten written count (rs ∷ rss) states o added images some many (inl new) left = by (left 0 some)
+all_left unwritten written count (rs ∷ rss) states o f added images some many (inl new) folded left = by (left 0 some)
   where
-    by : Left 0 rs added (images 0) → AllLeft count (rs ∷ rss) states o images
-    by (inl held) = record { kept = rs ∷ rss; which = inl refl; holds = same; begins = unwritten (rs ∷ rss) states o added (inl new); said = λ own. own }
+    by : Left 0 rs added (images 0) → AllLeft count (rs ∷ rss) states o f images
+    by (inl held) = record { kept = rs ∷ rss; which = inl refl; holds = same; begins = unwritten (rs ∷ rss) states o added (inl new); folds = λ filled. absurd (filled new.0); said = λ own. own }
       where
         same : (l : ℕ) → l < count → HoldsRecords (images l) (records_at (rs ∷ rss) l)
         same zero lt = held
@@ -162,6 +166,7 @@ all_left unwritten written count (rs ∷ rss) states o added images some many (i
       which = inr (new.0, ap (λ xs. (rs ++ xs) ∷ rss) new.2);
       holds = one_more;
       begins = written (rs ∷ rss) states o added (omega arith) (inl new);
+      folds = λ filled. folded;
       said = λ own. inr (said_written (rs ∷ rss) states o added (omega arith) (inl new) own);
     }
       where
@@ -172,11 +177,12 @@ all_left unwritten written count (rs ∷ rss) states o added images some many (i
 pub begins_again : GrowthKeeps → Unwritten → Written → (r : TheRun) (images : ℕ → List ℕ) → KeepsLimits r.work → CrashBefore r images → BeginsAgain r images
 begins_again keeps unwritten written r images limits crash =
     let devices = r.devices in
-    let all = all_left unwritten written r.work.logs devices.records r.work.states r.opening devices.added images limits.logs.0 devices.as_many devices.start (each_left keeps r images crash) in
+    let all = all_left unwritten written r.work.logs devices.records r.work.states r.opening devices.fold devices.added images limits.logs.0 devices.as_many devices.start devices.folds (each_left keeps r images crash) in
     record {
       kept = all.kept;
       which = subst (λ n. KeepsOrBegins n r.work.states devices.records all.kept) devices.as_many all.which;
       holds = all.holds;
       begins = all.begins;
+      folds = all.folds;
       said = all.said;
     }

@@ -6,16 +6,13 @@ use Rattle.aml_slice.specs.aml_tree.Tree.{CheckedMethod}
 use Rattle.run_opening.specs.log_opening.Devices.{Device, device_at}
 use Rattle.run_opening.specs.log_opening.Kept.{IsSaid}
 use Rattle.record_log.specs.Records.{HoldsRecords}
-use Rattle.run_opening.specs.Begins.{AreEmpty, AreOfRuns, Begins}
+use Rattle.run_opening.specs.Begins.{AreEmpty, AreOfRuns}
 use Rattle.run_opening.specs.Opens.{TellsRecords, records_at}
 use Rattle.run_recovery.specs.Beginnings.{BeginsAgain, HoldEach}
 use Rattle.run_recovery.specs.Crashes.{Recovers}
-use Rattle.run_recovery.specs.Next.{GoesOnFrom, opening_left, records_left}
+use Rattle.run_recovery.specs.Next.{GoesOnFrom, fold_left, records_left}
 use Rattle.run_recovery.specs.Recoverable.{AreRecoverable, TellBytes}
 use Rattle.run_recovery.specs.OneRun.{TheRun, MomentOf}
-use Rattle.snap_base.specs.declared.transactions.State.{State}
-use Rattle.snap_recover.specs.declared.openings.Opening.{Opening}
-use Rattle.snap_recover.specs.Opening.{IsRecovered}
 use Rattle.record_log.specs.txn_records.declared.records.Record.{Record}
 use Rattle.run_recovery.proofs.SeveralRuns.{kept_long}
 
@@ -33,20 +30,16 @@ tell_each logs ds images records as_many holds tell =
     (t.0, t.1, subst (λ (bytes : List ℕ). HoldsRecords bytes (records_at records l)) (sym t.2) (holds l here)))
 
 pub within : (p : List CheckedMethod) (r : TheRun) (m : MomentOf r) (images : ℕ → List ℕ) (left : Recovers p r m images) → GoesOnFrom left → AreOfRuns r.devices.records
-    → (ds : List Device) → TellBytes r.work.logs ds images → AreRecoverable ds (records_left left) (opening_left left)
-within p r m images left g own ds tell = record { said = g.said own; told = tell_each r.work.logs ds images (records_left left) g.as_many g.holds tell; recovered = g.recovered }
-
-some_recovered : (records : List (List Record)) (states : List State) (o : Opening) → ¬ AreEmpty records → Begins records states o → IsRecovered records o
-some_recovered records states o some (inl fresh) = absurd (some fresh.0)
-some_recovered records states o some (inr on) = on.recovered
+    → (ds : List Device) → TellBytes r.work.logs ds images → AreRecoverable ds (records_left left) (fold_left left)
+within p r m images left g own ds tell = record { said = g.said own; told = tell_each r.work.logs ds images (records_left left) g.as_many g.holds tell; folded = g.folded }
 
 some_said : (records : List (List Record)) → ¬ AreEmpty records → AreOfRuns records → IsSaid records
 some_said records some (inl none) = absurd (some none)
 some_said records some (inr said) = said
 
-pub early : (r : TheRun) (images : ℕ → List ℕ) (b : BeginsAgain r images) → ¬ AreEmpty b.kept → AreOfRuns r.devices.records → (ds : List Device) → TellBytes r.work.logs ds images → AreRecoverable ds b.kept r.opening
+pub early : (r : TheRun) (images : ℕ → List ℕ) (b : BeginsAgain r images) → ¬ AreEmpty b.kept → AreOfRuns r.devices.records → (ds : List Device) → TellBytes r.work.logs ds images → AreRecoverable ds b.kept r.devices.fold
 early r images b some own ds tell = record {
   said = some_said b.kept some (b.said own);
   told = tell_each r.work.logs ds images b.kept (kept_long r images b) b.holds tell;
-  recovered = some_recovered b.kept r.work.states r.opening some b.begins;
+  folded = b.folds some;
 }

@@ -9,3 +9,4 @@ pub mod RunsFollowed
 pub mod RunsRecovered
 pub mod SaidLogs
 pub mod SeveralRuns
+mod StatesFolded

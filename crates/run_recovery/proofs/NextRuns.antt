@@ -1,25 +1,25 @@
 -- What a crash leaves of the logs is what the next run begins on.
-use Rattle.std.specs.Prelude.{◌≡◌, ℕ, ◌≤◌, List, [], ◌∷◌, length, filter}
-use Rattle.std.proofs.Common.{inl, inr, sym, ap, ◌∙◌}
+use Rattle.std.specs.Prelude.{◌≡◌, refl, ℕ, ◌≤◌, List, [], ◌∷◌, ◌++◌, length, filter}
+use Rattle.std.proofs.Common.{inl, inr, arith, sym, ap, ◌∙◌}
+use Rattle.std.proofs.lemmas.List.{append-nil}
 use Rattle.aml_slice.specs.aml_tree.Tree.{CheckedMethod}
 use Rattle.protocol.specs.Moments.{left_in}
-use Rattle.protocol.specs.Records as written
 use Rattle.protocol.specs.Records.{LogRecord}
+use Rattle.machine_recovery.specs.compact_laws.log_compact.declared.folds.Folded.{Folded}
+use Rattle.machine_recovery.specs.compact_laws.log_compact.Sets.{IsFolded, OneFold}
 use Rattle.machine_recovery.specs.recovery_laws.Grown.{grown}
 use Rattle.machine_recovery.proofs.recovery_laws.WrittenLists.{grown_length, grown_genesis}
 use Rattle.run_opening.specs.Begins.{AreEmpty, BeganWith, Begins}
 use Rattle.run_opening.specs.Opens.{with_first}
 use Rattle.run_opening.specs.Starts.{IsStart}
-use Rattle.run_opening.proofs.RunOpening.{no_geneses}
 use Rattle.snap_base.specs.declared.transactions.State.{State}
 use Rattle.snap_recover.specs.declared.openings.Opening.{Opening}
-use Rattle.snap_recover.specs.Logs.{is_genesis}
-use Rattle.snap_recover.specs.Opening.{IsRecovered}
+use Rattle.snap_recover.specs.Logs.{all_of, is_genesis}
 use Rattle.snap_work.specs.Kept.{KeepsLimits}
 use Rattle.record_log.specs.txn_records.declared.records.Record.{Record}
 use Rattle.record_log.specs.txn_records.declared.records.Record.TheVariants.{Genesis}
 use Rattle.run_recovery.specs.Crashes.{Recovers, earlier}
-use Rattle.run_recovery.specs.Next.{GoesOnFrom, opening_left, records_left}
+use Rattle.run_recovery.specs.Next.{GoesOnFrom, fold_left, records_left}
 use Rattle.run_recovery.specs.OneRun.{TheRun, MomentOf, reached_at}
 use Rattle.run_recovery.specs.Runs.{AreRunDevices}
 use Rattle.run_recovery.proofs.LogsLeft.{first_long}
@@ -27,22 +27,18 @@ use Rattle.run_recovery.proofs.SaidLogs.{said_grown, said_written}
 
 -- ---- lists of records that began
 
+no_records : (logs : List (List Record)) → AreEmpty logs → all_of logs ≡ []
+no_records [] empty = refl
+no_records (rs ∷ logs) empty = ap (λ (l : List Record). l ++ all_of logs) empty.0 ∙ no_records logs empty.1
+
 began_some : (logs : List (List Record)) (states : List State) → BeganWith logs states → ¬ AreEmpty logs
-began_some logs states began empty = let none : Genesis (length logs) states ∷ [] ≡ [] = sym began ∙ ap (filter is_genesis) (no_geneses logs empty) in cc
+began_some logs states began empty = let none : Genesis (length logs) states ∷ [] ≡ [] = sym began ∙ ap (filter is_genesis) (no_records logs empty) in cc
 
 began_grown : (logs : List (List Record)) (states : List State) (more : ℕ → List LogRecord) → BeganWith logs states → BeganWith (grown logs more) states
 began_grown logs states more began = grown_genesis 0 logs more ∙ (began ∙ ap (λ (n : ℕ). Genesis n states ∷ []) (sym (grown_length 0 logs more)))
 
-grown_began : (logs : List (List Record)) (states : List State) (more : ℕ → List LogRecord) → BeganWith (grown logs more) states → BeganWith logs states
-grown_began logs states more began = sym (grown_genesis 0 logs more) ∙ (began ∙ ap (λ (n : ℕ). Genesis n states ∷ []) (grown_length 0 logs more))
-
 one_beginning : (logs : List (List Record)) (first states : List State) → BeganWith logs first → BeganWith logs states → first ≡ states
 one_beginning logs first states a b = let e : Genesis (length logs) first ∷ [] ≡ Genesis (length logs) states ∷ [] = sym a ∙ b in cc
-
--- where they began with some states at all, a run of a text begins on them with the text's own
-begun_same : (logs : List (List Record)) (first states : List State) (o : Opening) → BeganWith logs first → Begins logs states o → BeganWith logs states
-begun_same logs first states o began (inl new) = absurd (began_some logs first began new.0)
-begun_same logs first states o began (inr on) = on.same
 
 -- ---- the next run
 
@@ -50,24 +46,39 @@ begun_same logs first states o began (inr on) = on.same
 abbrev pub BeginsWritten : Type 0
 BeginsWritten = (logs : List (List Record)) (states : List State) (o : Opening) (added : List Record) → 1 ≤ length logs → IsStart logs states o added → Begins (with_first logs added) states o
 
--- what the law one_opening of snap_recover says
-abbrev pub OneOpening : Type 0
-OneOpening = (logs : List (List Record)) (o q : Opening) → IsRecovered logs o → IsRecovered logs q → o ≡ q
+-- once it is written there is a record
+written_some : (logs : List (List Record)) (states : List State) (o : Opening) (added : List Record) → 1 ≤ length logs → IsStart logs states o added → ¬ AreEmpty (with_first logs added)
+written_some [] states o added some start empty = absurd (omega (arith, some))
+written_some (rs ∷ rss) states o added some (inl new) empty =
+    let none : Genesis (length (rs ∷ rss)) states ∷ [] ≡ [] = sym (ap (λ (l : List Record). l ++ added) new.0.0 ∙ new.2) ∙ empty.0 in absurd (cc)
+written_some (rs ∷ rss) states o added some (inr on) empty = on.0.some (sym (ap (λ (l : List Record). rs ++ l) on.1 ∙ append-nil rs) ∙ empty.0, empty.1)
 
-begins_alone : OneOpening → (logs : List (List Record)) (first states : List State) (o q : Opening) → BeganWith logs first → IsRecovered logs o → Begins logs states q → (q ≡ o) × (states ≡ first)
-begins_alone one logs first states o q began recovered (inl new) = absurd (began_some logs first began new.0)
-begins_alone one logs first states o q began recovered (inr on) = (one logs q o on.recovered recovered, one_beginning logs states first on.same began)
+-- so these logs began with the text's states
+written_began : BeginsWritten → (logs : List (List Record)) (states : List State) (o : Opening) (added : List Record) → 1 ≤ length logs → IsStart logs states o added → BeganWith (with_first logs added) states
+written_began law logs states o added some start = by (law logs states o added some start)
+  where
+    by : Begins (with_first logs added) states o → BeganWith (with_first logs added) states
+    by (inl new) = absurd (written_some logs states o added some start new.0)
+    by (inr on) = on.same
 
-pub goes_on : BeginsWritten → OneOpening → (p : List CheckedMethod) (r : TheRun) (m : MomentOf r) (images : ℕ → List ℕ) → KeepsLimits r.work → (left : Recovers p r m images) → GoesOnFrom left
+-- two openings to which logs fold are the same
+pub one_opening : OneFold → (logs : List (List Record)) (o q : Opening) → (f : Folded) × IsFolded logs f × (f.opening ≡ o) → (g : Folded) × IsFolded logs g × (g.opening ≡ q) → o ≡ q
+one_opening one logs o q x y = sym x.2 ∙ (ap (λ (f : Folded). f.opening) (one logs x.0 y.0 x.1 y.1) ∙ y.2)
+
+begins_alone : OneFold → (logs : List (List Record)) (first states : List State) (f : Folded) (q : Opening) → BeganWith logs first → IsFolded logs f → Begins logs states q → (q ≡ f.opening) × (states ≡ first)
+begins_alone one logs first states f q began folded (inl new) = absurd (began_some logs first began new.0)
+begins_alone one logs first states f q began folded (inr on) = (one_opening one logs q f.opening on.folded (f, folded, refl), one_beginning logs states first on.same began)
+
+pub goes_on : BeginsWritten → OneFold → (p : List CheckedMethod) (r : TheRun) (m : MomentOf r) (images : ℕ → List ℕ) → KeepsLimits r.work → (left : Recovers p r m images) → GoesOnFrom left
 goes_on law one p r m images limits left = record {
   as_many = grown_length 0 (earlier r) more ∙ (first_long devices.records devices.added ∙ devices.as_many);
   holds = left.holds;
   some = began_some (records_left left) states same;
-  recovered = left.members.recovered;
+  folded = left.members.folded;
   same = same;
-  said = λ own. said_grown (earlier r) more (said_written devices.records states r.opening devices.added (rw devices.as_many limits.logs.0) devices.start own);
-  begins = λ unspent. inr (record { some = began_some (records_left left) states same; recovered = left.members.recovered; same = same; unspent = unspent });
-  alone = λ others q begins. begins_alone one (records_left left) states others (opening_left left) q same left.members.recovered begins;
+  said = λ own. said_grown (earlier r) more (said_written devices.records states r.opening devices.added some devices.start own);
+  begins = λ unspent. inr (record { some = began_some (records_left left) states same; folded = (fold_left left, left.members.folded, refl); same = same; unspent = unspent });
+  alone = λ others q begins. begins_alone one (records_left left) states others (fold_left left) q same left.members.folded begins;
 }
   where
     devices : AreRunDevices r.work r.opening r.events r.failed r.before r.after
@@ -79,9 +90,8 @@ goes_on law one p r m images limits left = record {
     more : ℕ → List LogRecord
     more = left_in (reached_at r m) left.kept
 
-    once : BeganWith (earlier r) left.members.recovered.begun.0
-    once = grown_began (earlier r) left.members.recovered.begun.0 more left.members.recovered.begun.1.one
+    some : 1 ≤ length devices.records
+    some = rw devices.as_many limits.logs.0
 
     same : BeganWith (records_left left) states
-    same = began_grown (earlier r) states more
-        (begun_same (earlier r) left.members.recovered.begun.0 states r.opening once (law devices.records states r.opening devices.added (rw devices.as_many limits.logs.0) devices.start))
+    same = began_grown (earlier r) states more (written_began law devices.records states r.opening devices.added some devices.start)

@@ -18,13 +18,13 @@ use Rattle.protocol.specs.Runs.{IsRun, opening, reached}
 use Rattle.machine_laws.specs.protocol_records.Crash.{CrashHolds}
 use Rattle.record_log.specs.GrowthLaws.{MomentKeeps}
 use Rattle.record_log.specs.Records.{HoldsRecords}
-use Rattle.machine_recovery.specs.recovery_laws.Joined.{RecoversToMembers}
+use Rattle.machine_recovery.specs.compact_laws.Members.{FoldsToMembers}
+use Rattle.machine_recovery.specs.recovery_laws.Grown.{BeginsWith}
 use Rattle.machine_recovery.proofs.recovery_laws.MomentsJoined.{front_allowed}
 use Rattle.run_opening.specs.Opens.{records_at}
 use Rattle.run_effects.specs.Laws.{GroupsAreDurable}
 use Rattle.snap_base.specs.declared.transactions.State.{State}
 use Rattle.snap_recover.specs.declared.openings.Opening.{Opening}
-use Rattle.snap_recover.specs.Opening.{IsRecovered}
 use Rattle.snap_work.specs.Kept.{KeepsLimits}
 use Rattle.snap_work.specs.Works.{Work}
 use Rattle.run_recovery.specs.Crashes.{CrashOn, Recovers, earlier}
@@ -32,7 +32,7 @@ use Rattle.run_recovery.specs.EachRun.{AfterEachRun, OfEachRun}
 use Rattle.run_recovery.specs.OneRun.{TheRun, MomentOf, machine_in, reached_at, the_run}
 use Rattle.run_recovery.specs.Runs.{AreRunDevices, HasRunWork, machine_of, text_of}
 use Rattle.run_recovery.specs.Schedules.{Schedule}
-use Rattle.run_recovery.proofs.BegunTexts.{BegunRecovered, begins_with, earlier_recovers, starts_with_as_many, text_begins}
+use Rattle.run_recovery.proofs.BegunTexts.{begins_with, starts_with_as_many, text_begins}
 use Rattle.run_recovery.proofs.LogsLeft.{HoldsCut, IsCutTo, cut_at, cut_synced, first_long, grown_at}
 use Rattle.run_recovery.proofs.RunsFollowed.{taken_run}
 
@@ -57,12 +57,11 @@ after_run P p law = of_run (λ w finish es. P w finish (reached w es) (history w
 
 -- what the laws say, of the program
 pub record Laws (p : List CheckedMethod) : Type 0 where
-  pub members : AtEveryMomentOnLogsOf p RecoversToMembers
+  pub members : AtEveryMomentOnLogsOf p FoldsToMembers
   pub meant : AtEveryMomentOnLogsOf p (RecoversAsMeant p)
   pub in_order : AtEveryMomentOf p CrashHolds
   pub moment : MomentKeeps
   pub durable : (v : Fixed Rest) → GroupsAreDurable v
-  pub begun : BegunRecovered
 
 -- a log is left with so many, where it is one of the run
 record IsPicked (r : TheRun) (m : MomentOf r) (images : ℕ → List ℕ) (l k : ℕ) : Type 0 where
@@ -86,8 +85,8 @@ run_recovers w schedule o es failed before after laws limits run m images crash 
   kept = kept;
   left = left;
   holds = λ l lt. subst (HoldsRecords (images l)) (sym (grown_at (earlier r) (left_in now kept) l (rw many lt))) ((pick l).1.holds lt);
-  members = laws.members (text_of w o) es m kept (earlier r) o text all left many recovered (begins_with w o);
-  meant = laws.meant (text_of w o) es m kept (earlier r) o text all left many recovered (begins_with w o);
+  members = laws.members (text_of w o) es m kept (earlier r) devices.fold text all left many devices.folds begins;
+  meant = laws.meant (text_of w o) es m kept (earlier r) devices.fold text all left many devices.folds begins;
   stands = (laws.in_order (text_of w o) es m kept text all left).stands;
 }
   where
@@ -121,8 +120,8 @@ run_recovers w schedule o es failed before after laws limits run m images crash 
     many : length (earlier r) ≡ w.logs
     many = first_long devices.records devices.added ∙ devices.as_many
 
-    recovered : IsRecovered (earlier r) o
-    recovered = earlier_recovers laws.begun devices.records w.states o devices.added (rw devices.as_many limits.logs.0) devices.start
+    begins : BeginsWith (text_of w o) devices.fold.opening
+    begins = subst (BeginsWith (text_of w o)) (sym devices.opens) (begins_with w o)
 
 pub recovers : (p : List CheckedMethod) → Laws p → (w : Work) (schedule : Schedule) (o : Opening) (es : List machine.Event) (failed : ℕ → Bool) (before after : List Device) → w.program ≡ p → KeepsLimits w
     → (run : HasRunWork w schedule o es failed before after) → (m : MomentOf (the_run run)) (images : ℕ → List ℕ) → CrashOn (the_run run) m images → Recovers p (the_run run) m images

@@ -14,7 +14,7 @@ use Rattle.run_opening.specs.Starts.{IsStart}
 use Rattle.snap_base.specs.declared.transactions.State.{State}
 use Rattle.snap_recover.specs.declared.openings.Opening.{Opening}
 use Rattle.record_log.specs.txn_records.declared.records.Record.{Record}
-use Rattle.record_log.specs.txn_records.declared.records.Record.TheVariants.{Genesis, BatchInfo, BatchComplete, BatchCommit, ActPrepare, ActCommit, BatchDone, ActDone}
+use Rattle.record_log.specs.txn_records.declared.records.Record.TheVariants.{Genesis, BatchInfo, BatchComplete, BatchCommit, ActPrepare, ActCommit, BatchDone, ActDone, Checkpoint}
 
 -- ---- a run's records say nothing of it
 
@@ -36,6 +36,7 @@ said_before (ActPrepare t a st ∷ rs) more = said_before rs more
 said_before (ActCommit t m c actors ∷ rs) more = said_before rs more
 said_before (BatchDone k vs ∷ rs) more = said_before rs more
 said_before (ActDone t m c v actors ∷ rs) more = said_before rs more
+said_before (Checkpoint g t b c m n ss ∷ rs) more = said_before rs more
 
 pub said_grown : (logs : List (List Record)) (more : ℕ → List LogRecord) → IsSaid logs → IsSaid (grown logs more)
 said_grown [] more said = let none : [] ≡ said.0 ∷ said.1 = said.2 in absurd (cc)

@@ -13,6 +13,7 @@ use Rattle.protocol.specs.Runs.{reached}
 use Rattle.machine_laws.specs.protocol_records.Crash.{members}
 use Rattle.record_log.specs.RecordLogLaws.{OneListOfRecords}
 use Rattle.record_log.specs.Records.{HoldsRecords}
+use Rattle.machine_recovery.specs.compact_laws.log_compact.Sets.{OneFold}
 use Rattle.machine_recovery.specs.recovery_laws.Grown.{all_in}
 use Rattle.run_opening.specs.Begins.{AreOfRuns, Begins, fresh_opening}
 use Rattle.run_opening.specs.Opens.{records_at}
@@ -35,7 +36,7 @@ use Rattle.run_recovery.specs.Several.{AddsMembers, BeganOn, Crash, CutOff, Each
 use Rattle.run_recovery.specs.Unbegun.{AreKept}
 use Rattle.run_recovery.proofs.CallsKept.{CallsKeep}
 use Rattle.run_recovery.proofs.LogsLeft.{first_long}
-use Rattle.run_recovery.proofs.NextRuns.{OneOpening}
+use Rattle.run_recovery.proofs.NextRuns.{one_opening}
 
 -- ---- one of several programs
 
@@ -53,17 +54,17 @@ AreRecovered p = (w : Work) (schedule : Schedule) (o : Opening) (es : List machi
 pub record NextLaws : Type 0 where
   pub begin : (r : TheRun) (images : ℕ → List ℕ) → KeepsLimits r.work → CrashBefore r images → BeginsAgain r images
   pub go_on : (p : List CheckedMethod) (r : TheRun) (m : MomentOf r) (images : ℕ → List ℕ) → KeepsLimits r.work → (left : Recovers p r m images) → GoesOnFrom left
-  pub opening : OneOpening
+  pub fold : OneFold
   pub list : OneListOfRecords
   pub calls : CallsKeep
 
 -- ---- what is left
 
-one_start : OneOpening → (logs : List (List Record)) (states : List State) (o q : Opening) → Begins logs states o → Begins logs states q → q ≡ o
+one_start : OneFold → (logs : List (List Record)) (states : List State) (o q : Opening) → Begins logs states o → Begins logs states q → q ≡ o
 one_start one logs states o q (inl x) (inl y) = y.1 ∙ sym x.1
 one_start one logs states o q (inl x) (inr y) = absurd (y.some x.0)
 one_start one logs states o q (inr x) (inl y) = absurd (x.some y.0)
-one_start one logs states o q (inr x) (inr y) = one logs q o y.recovered x.recovered
+one_start one logs states o q (inr x) (inr y) = one_opening one logs q o y.folded x.folded
 
 pub kept_long : (r : TheRun) (images : ℕ → List ℕ) (b : BeginsAgain r images) → length b.kept ≡ r.work.logs
 kept_long r images b = by b.which
@@ -92,13 +93,14 @@ crashed laws x recovered (Early crash) =
       by = (b, refl, refl);
       as_many = kept_long (the_run x.run) x.images b;
       holds = b.holds;
-      alone = λ q begins. one_start laws.opening b.kept x.work.states x.opening q b.begins begins;
+      alone = λ q begins. one_start laws.fold b.kept x.work.states x.opening q b.begins begins;
       said = b.said;
       committed = ([], sym (append-nil x.opening.committed), refl);
     }
 crashed laws x recovered (Within m crash) =
     let r = recovered x.work x.schedule x.opening x.events x.failed x.before x.after refl x.limits x.run m x.images crash in
     let g = laws.go_on x.work.program (the_run x.run) m x.images x.limits r in
+    let more : List Kept = all_in x.work.logs (left_in (reached (machine_of x.work x.opening) m.events) r.kept) (reached (machine_of x.work x.opening) m.events) in
     record {
       records = records_left r;
       opening = opening_left r;
@@ -108,14 +110,14 @@ crashed laws x recovered (Within m crash) =
       alone = λ q begins. (g.alone x.work.states q begins).0;
       said = λ own. inr (g.said own);
       committed = (
-        all_in x.work.logs (left_in (reached (machine_of x.work x.opening) m.events) r.kept) (reached (machine_of x.work x.opening) m.events),
-        refl,
+        more,
+        ap (λ (q : Opening). q.committed ++ more) x.run.devices.opens,
         (members x.work.logs (left_in (reached (machine_of x.work x.opening) m.events) r.kept) (history (machine_of x.work x.opening) m.events), r.members.ordered, r.meant.values),
       );
     }
 
 -- a run begins behind the calls with the opening with which it would have begun before them
-begins_alone : OneOpening → (logs : ℕ) (states : List State) (records : List (List Record)) (images : ℕ → List ℕ) (k : AreKept logs states records images) (o : Opening) → ((q : Opening) → Begins records states q → q ≡ o)
+begins_alone : OneFold → (logs : ℕ) (states : List State) (records : List (List Record)) (images : ℕ → List ℕ) (k : AreKept logs states records images) (o : Opening) → ((q : Opening) → Begins records states q → q ≡ o)
     → (q : Opening) → Begins k.kept states q → q ≡ o
 begins_alone one logs states records images k o alone q begins = by k.which
   where
@@ -138,7 +140,7 @@ left_by laws x recovered crash =
       which = k.which;
       as_many = k.as_many;
       holds = k.holds;
-      alone = begins_alone laws.opening x.work.logs x.work.states c.records (bytes_left x) k c.opening c.alone;
+      alone = begins_alone laws.fold x.work.logs x.work.states c.records (bytes_left x) k c.opening c.alone;
       said = λ own. k.said (c.said own);
       committed = c.committed;
     }

@@ -9,6 +9,7 @@ use Rattle.run_opening.specs.Begins.{AreEmpty, AreOfRuns, Begins}
 use Rattle.run_opening.specs.Opens.{first_groups, records_at, with_first}
 use Rattle.run_opening.specs.Starts.{first_record}
 use Rattle.run_recovery.specs.OneRun.{TheRun}
+use Rattle.machine_recovery.specs.compact_laws.log_compact.Sets.{IsFolded}
 use Rattle.snap_base.specs.declared.transactions.State.{State}
 use Rattle.record_log.specs.snap_outside.declared.devices.DevOp.{DevOp}
 use Rattle.record_log.specs.snap_outside.Disk.{DeviceHistory, content, disk, disk_after, settled, IsImage}
@@ -41,4 +42,6 @@ pub record BeginsAgain (r : TheRun) (images : ℕ → List ℕ) : Type 0 where
   pub which : KeepsOrBegins r.work.logs r.work.states r.devices.records kept
   pub holds : HoldEach r.work.logs images kept
   pub begins : Begins kept r.work.states r.opening
+  -- they fold to what the logs fold to as the run begins
+  pub folds : ¬ AreEmpty kept → IsFolded kept r.devices.fold
   pub said : AreOfRuns r.devices.records → AreOfRuns kept

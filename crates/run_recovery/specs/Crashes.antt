@@ -9,7 +9,7 @@ use Rattle.machine_laws.specs.protocol_records.Crash.{CrashStands}
 use Rattle.record_log.specs.Growth.{begun_groups}
 use Rattle.record_log.specs.Records.{HoldsRecords}
 use Rattle.machine_recovery.specs.recovery_laws.Grown.{grown}
-use Rattle.machine_recovery.specs.recovery_laws.Joined.{RecoversToMembers}
+use Rattle.machine_recovery.specs.compact_laws.Members.{FoldsToMembers}
 use Rattle.run_opening.specs.Opens.{first_groups, records_at, with_first}
 use Rattle.run_effects.specs.Groups.{groups_of, group_behind}
 use Rattle.run_effects.specs.Made.{IsMade}
@@ -40,12 +40,12 @@ abbrev pub earlier : TheRun → List (List Record)
 earlier r = with_first r.devices.records r.devices.added
 
 -- Each log is left with the records of before the run and, of the run's, those that are synced, or these with all that wait. They
--- recover to the states that the members leave, one after the other in the order of their places, as the language means each;
+-- fold to the states that the members leave, one after the other in the order of their places, as the language means each;
 -- the members are closed under what comes before them, and hold everyone who was told that it committed.
 pub record Recovers (p : List CheckedMethod) (r : TheRun) (m : MomentOf r) (images : ℕ → List ℕ) : Type 0 where
   pub kept : ℕ → ℕ
   pub left : IsLeft (machine_in r) r.events m kept
   pub holds : (l : ℕ) → l < r.work.logs → HoldsRecords (images l) (records_at (grown (earlier r) (left_in (reached_at r m) kept)) l)
-  pub members : RecoversToMembers (machine_in r) (alone_in p r) (earlier r) r.opening (reached_at r m) (history_at r m) (left_in (reached_at r m) kept)
-  pub meant : RecoversAsMeant p (machine_in r) (alone_in p r) (earlier r) r.opening (reached_at r m) (history_at r m) (left_in (reached_at r m) kept)
+  pub members : FoldsToMembers (machine_in r) (alone_in p r) (earlier r) r.devices.fold (reached_at r m) (history_at r m) (left_in (reached_at r m) kept)
+  pub meant : RecoversAsMeant p (machine_in r) (alone_in p r) (earlier r) r.devices.fold (reached_at r m) (history_at r m) (left_in (reached_at r m) kept)
   pub stands : CrashStands (machine_in r) (alone_in p r) r.events (reached_at r m) (history_at r m) (left_in (reached_at r m) kept)

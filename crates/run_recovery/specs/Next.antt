@@ -5,25 +5,31 @@ use Rattle.aml_slice.specs.aml_tree.Tree.{CheckedMethod}
 use Rattle.run_opening.specs.log_opening.Kept.{IsSaid}
 use Rattle.protocol.specs.Moments.{left_in}
 use Rattle.record_log.specs.Records.{HoldsRecords}
-use Rattle.machine_recovery.specs.recovery_laws.Grown.{grown, opening_after}
+use Rattle.machine_recovery.specs.recovery_laws.Grown.{grown}
 use Rattle.run_opening.specs.Begins.{AreEmpty, AreOfRuns, BeganWith, Begins, IsUnspent}
 use Rattle.run_opening.specs.Opens.{records_at}
 use Rattle.run_recovery.specs.Crashes.{Recovers, earlier}
 use Rattle.run_recovery.specs.OneRun.{TheRun, MomentOf, machine_in, reached_at}
 use Rattle.snap_base.specs.declared.transactions.State.{State}
 use Rattle.snap_recover.specs.declared.openings.Opening.{Opening}
-use Rattle.snap_recover.specs.Opening.{IsRecovered}
+use Rattle.machine_recovery.specs.compact_laws.log_compact.declared.folds.Folded.{Folded}
+use Rattle.machine_recovery.specs.compact_laws.log_compact.Sets.{IsFolded}
+use Rattle.machine_recovery.specs.compact_laws.Steps.{fold_after}
 use Rattle.record_log.specs.txn_records.declared.records.Record.{Record}
 
 -- the records with which the logs are left
 abbrev pub records_left : {p : List CheckedMethod} {r : TheRun} {m : MomentOf r} {images : ℕ → List ℕ} → Recovers p r m images → List (List Record)
 records_left {p} {r} {m} {images} left = grown (earlier r) (left_in (reached_at r m) left.kept)
 
+-- what they fold to
+abbrev pub fold_left : {p : List CheckedMethod} {r : TheRun} {m : MomentOf r} {images : ℕ → List ℕ} → Recovers p r m images → Folded
+fold_left {p} {r} {m} {images} left = fold_after (machine_in r) r.devices.fold (reached_at r m) (left_in (reached_at r m) left.kept)
+
 -- the opening to which they recover
 abbrev pub opening_left : {p : List CheckedMethod} {r : TheRun} {m : MomentOf r} {images : ℕ → List ℕ} → Recovers p r m images → Opening
-opening_left {p} {r} {m} {images} left = opening_after (machine_in r) r.opening (reached_at r m) (left_in (reached_at r m) left.kept)
+opening_left left = (fold_left left).opening
 
--- What a crash leaves is what a run goes on from: each log has a list of its own, and holds it; they have a record; they recover to
+-- What a crash leaves is what a run goes on from: each log has a list of its own, and holds it; they have a record; they fold to
 -- the opening; they began with the work's states; and log 0 says how many there are, where the run found logs as runs leave them. So,
 -- unless a number of it is spent, a run of any text of the same states, on as many logs, begins on them with this opening; and none
 -- begins on them with another, or of other states.
@@ -31,7 +37,7 @@ pub record GoesOnFrom {p : List CheckedMethod} {r : TheRun} {m : MomentOf r} {im
   pub as_many : length (records_left left) ≡ r.work.logs
   pub holds : (l : ℕ) → l < r.work.logs → HoldsRecords (images l) (records_at (records_left left) l)
   pub some : ¬ AreEmpty (records_left left)
-  pub recovered : IsRecovered (records_left left) (opening_left left)
+  pub folded : IsFolded (records_left left) (fold_left left)
   pub same : BeganWith (records_left left) r.work.states
   pub said : AreOfRuns r.devices.records → IsSaid (records_left left)
   pub begins : IsUnspent (opening_left left) → Begins (records_left left) r.work.states (opening_left left)

@@ -5,16 +5,16 @@ use Rattle.run_opening.specs.log_opening.Devices.{Device, device_at}
 use Rattle.run_opening.specs.log_opening.Kept.{IsSaid}
 use Rattle.run_opening.specs.Opens.{TellsRecords}
 use Rattle.record_log.specs.snap_outside.Disk.{DeviceHistory, content}
-use Rattle.snap_recover.specs.declared.openings.Opening.{Opening}
-use Rattle.snap_recover.specs.Opening.{IsRecovered}
+use Rattle.machine_recovery.specs.compact_laws.log_compact.declared.folds.Folded.{Folded}
+use Rattle.machine_recovery.specs.compact_laws.log_compact.Sets.{IsFolded}
 use Rattle.record_log.specs.txn_records.declared.records.Record.{Record}
 
 -- Log 0 says how many logs there are; their devices, the first ones of these, tell that they hold these records; and the records
--- recover to the opening.
-pub record AreRecoverable (devices : List Device) (logs : List (List Record)) (o : Opening) : Type 0 where
+-- fold to this.
+pub record AreRecoverable (devices : List Device) (logs : List (List Record)) (f : Folded) : Type 0 where
   pub said : IsSaid logs
   pub told : AllZip TellsRecords (take (length logs) devices) logs
-  pub recovered : IsRecovered logs o
+  pub folded : IsFolded logs f
 
 -- the devices of so many logs tell these bytes
 abbrev pub TellBytes : ℕ → List Device → (ℕ → List ℕ) → Type 0

@@ -9,12 +9,14 @@ use Rattle.run_effects.specs.Driven.{tried_on}
 use Rattle.run_opening.specs.log_opening.Devices.{Device, device_at, HoldNoOld}
 use Rattle.run_opening.specs.log_opening.Kept.{DeviceHolds}
 pub use Rattle.machine_text.specs.Texts.{text_of, machine_of}
+use Rattle.machine_recovery.specs.compact_laws.log_compact.declared.folds.Folded.{Folded}
+use Rattle.machine_recovery.specs.compact_laws.log_compact.Sets.{IsFolded}
 use Rattle.protocol.specs.Conditions.{IsAllowed}
 use Rattle.protocol.specs.Events as machine
 use Rattle.protocol.specs.Runs.{IsQuiet, reached}
 use Rattle.protocol_schedule.specs.Draw.{IsFrontOfSeed}
 use Rattle.record_log.specs.Growth.{GrewBy}
-use Rattle.run_opening.specs.Opens.{HasRoomToBegin, first_groups, records_at}
+use Rattle.run_opening.specs.Opens.{HasRoomToBegin, first_groups, records_at, with_first}
 use Rattle.run_opening.specs.Starts.{IsStart}
 use Rattle.run_effects.specs.Groups.{groups_of, group_behind}
 use Rattle.run_recovery.specs.Schedules.{Schedule, seeded, free, IsTakenBy}
@@ -54,6 +56,10 @@ pub record AreRunDevices (w : Work) (o : Opening) (es : List machine.Event) (fai
   pub added : List Record
   pub as_many : length records ≡ w.logs
   pub start : IsStart records w.states o added
+  -- what the logs fold to as the run begins
+  pub fold : Folded
+  pub folds : IsFolded (with_first records added) fold
+  pub opens : fold.opening ≡ o
   pub recent : HoldNoOld w.logs before
   pub each : (l : ℕ) → l < w.logs → IsRunDevice (device_at before l) (device_at after l) (records_at records l)
       (first_groups l added ++ groups_of (machine_of w o) l es) (tried_on failed l (group_behind (machine_of w o) l es))

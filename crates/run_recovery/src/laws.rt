@@ -16,7 +16,7 @@ ghost use Rattle.run_opening.specs.Begins.{AreEmpty, AreOfRuns};
 ghost use Rattle.run_recovery.specs.Beginnings.{BeginsAgain, CrashBefore, HoldEach};
 ghost use Rattle.run_recovery.specs.Crashes.{CrashOn, Recovers};
 ghost use Rattle.run_recovery.specs.EachRun.{AfterEachRun, OfEachRun};
-ghost use Rattle.run_recovery.specs.Next.{GoesOnFrom, opening_left, records_left};
+ghost use Rattle.run_recovery.specs.Next.{GoesOnFrom, fold_left, records_left};
 ghost use Rattle.run_recovery.specs.Recoverable.{AreRecoverable, TellBytes};
 ghost use Rattle.run_recovery.specs.OneRun.{TheRun, MomentOf, the_run};
 ghost use Rattle.run_recovery.specs.Runs.{HasRunWork, GoesOnWith};
@@ -38,11 +38,10 @@ use machine_laws::{
     runs_that_cannot_go_on_have_answered, told_transactions_are_in_order, verdicts_are_as_meant,
     verdicts_have_evidence, verdicts_tell_of_serial_runs,
 };
-use machine_recovery::{logs_recover_as_meant, logs_recover_to_the_members};
+use machine_recovery::{logs_fold_to_the_members, logs_recover_as_meant, one_fold};
 use record_log::{groups_are_whole, one_list_of_records};
 use run_effects::groups_grow;
 use run_opening::begins_again;
-use snap_recover::{begun_logs_are_recovered, one_opening};
 
 /// What one thread takes by the schedule of a seed is among what several workers may take, and so is the event with which it goes on.
 pub fn seeds_pick_runs()
@@ -83,12 +82,11 @@ pub fn runs_are_recovered(program: &Checked)
         → w.program ≡ methods_of program.now → KeepsLimits w → (run : HasRunWork w schedule o es failed before after)
         → (m : MomentOf (the_run run)) (images : ℕ → List ℕ) → CrashOn (the_run run) m images → Recovers (methods_of program.now) (the_run run) m images }
 {
-    logs_recover_to_the_members(program);
+    logs_fold_to_the_members(program);
     logs_recover_as_meant(program);
     recovered_transactions_are_in_order(program);
     groups_are_whole();
     groups_grow::<aml_slice::Control>();
-    begun_logs_are_recovered();
 }
 
 /// A crash while a run begins loses no record: the logs hold what they held, or, where they held none, Genesis alone; and a run of
@@ -106,7 +104,7 @@ pub fn crashed_runs_go_on()
     ensures { (p : List CheckedMethod) (r : TheRun) (m : MomentOf r) (images : ℕ → List ℕ) → KeepsLimits r.work → (left : Recovers p r m images) → GoesOnFrom left }
 {
     begins_again();
-    one_opening();
+    one_fold();
 }
 
 /// Calls in which no run began, one behind the other, each made to its end or cut off by a crash, lose no record: the logs hold what
@@ -124,9 +122,9 @@ pub fn unbegun_calls_lose_nothing()
 /// which the next run begins.
 pub fn what_is_left_is_recoverable()
     ensures within { (p : List CheckedMethod) (r : TheRun) (m : MomentOf r) (images : ℕ → List ℕ) (left : Recovers p r m images) → GoesOnFrom left → AreOfRuns r.devices.records
-        → (again : List Device) → TellBytes r.work.logs again images → AreRecoverable again (records_left left) (opening_left left) }
+        → (again : List Device) → TellBytes r.work.logs again images → AreRecoverable again (records_left left) (fold_left left) }
     ensures early { (r : TheRun) (images : ℕ → List ℕ) (b : BeginsAgain r images) → ¬ AreEmpty b.kept → AreOfRuns r.devices.records
-        → (again : List Device) → TellBytes r.work.logs again images → AreRecoverable again b.kept r.opening }
+        → (again : List Device) → TellBytes r.work.logs again images → AreRecoverable again b.kept r.devices.fold }
 {}
 
 /// Of runs one behind the other, each of a work of one of these programs, and each on the bytes that were left before it by a crash,
@@ -137,7 +135,7 @@ pub fn runs_go_on_behind_each_other(programs: &[Checked])
 {
     beginnings_are_recovered();
     crashed_runs_go_on();
-    one_opening();
+    one_fold();
     one_list_of_records();
     unbegun_calls_lose_nothing();
     for program in programs {

@@ -93,6 +93,7 @@ begun_answer p r stands marks o (status.LogFault log) front whole end =
 begun_answer p r stands marks o status.OutFault front whole end = (end.1, (o, end.0.run, stands o none_failed end.0.run, end.2, front))
 begun_answer p r stands marks o status.TraceFault front whole end = absurd end
 begun_answer p r stands marks o (status.Audit fault) front whole end = end
+begun_answer p r stands marks o (status.Compact logs) front whole end = end
 
 -- where nothing is kept nothing is traced
 abbrev Unwritten : RunUse → Type 0
@@ -130,6 +131,7 @@ is_done (status.LogFault log) = inr (λ e. cc)
 is_done status.OutFault = inr (λ e. cc)
 is_done status.TraceFault = inr (λ e. cc)
 is_done (status.Audit fault) = inr (λ e. cc)
+is_done (status.Compact logs) = inr (λ e. cc)
 
 answered : (p : Printing) (r : RunUse) → EachStands r → MarksAreReplies → (before after : Status) → (r.kept ≡ [] → WritesNothing r.trace) → IsUntraced p r before → IsTraced r.trace r.kept before after → IsAnswerOf p r after
 answered p r stands marks before after nothing run (inl (same, whole)) = same_answer p r stands marks before after nothing run same (whole_lines r.trace r.kept whole) (λ _. whole)
@@ -153,6 +155,7 @@ begun_not_of_logs p r records first may o (status.LogFault log) end of = let x =
 begun_not_of_logs p r records first may o status.OutFault end of = of
 begun_not_of_logs p r records first may o status.TraceFault end of = of
 begun_not_of_logs p r records first may o (status.Audit fault) end of = of
+begun_not_of_logs p r records first may o (status.Compact logs) end of = of
 
 -- nor does a run that does not begin for want of memory
 unbegun_not_of_logs : (why : LogsNo) (s : Status) → s ≡ logs_status why → why ≡ ending.Memory → ¬ IsOfLogs s

@@ -62,11 +62,11 @@ run_device b a old new end records first groups tried is driven same = record {
 module _
     (w : Work) (schedule : Schedule) (o : Opening) (es : List machine.Event) (failed : ℕ → Bool) (before after others : List Device) (old new : List LogState)
     (states : List State) (records : List (List Record)) (added : List Record)
-    (texts : states ≡ w.states) (opens : OpensRun before old states o records added) (as_many : length records ≡ w.logs) (room : HasRoomToBegin o)
+    (texts : states ≡ w.states) (opened : OpensRun before old states o records added) (as_many : length records ≡ w.logs) (room : HasRoomToBegin o)
     (driven : HasDriven w schedule o es old new failed) (same : after ≡ map as_device new ++ others) (rest : others ≡ drop w.logs before)
   where
     old_many : length old ≡ w.logs
-    old_many = opens.as_many ∙ as_many
+    old_many = opened.as_many ∙ as_many
 
     new_many : length new ≡ w.logs
     new_many = driven.as_many ∙ old_many
@@ -82,10 +82,13 @@ module _
         records = records;
         added = added;
         as_many = as_many;
-        start = subst (λ (ss : List State). IsStart records ss o added) texts opens.start;
-        recent = subst (λ (n : ℕ). HoldNoOld n before) as_many opens.recent;
+        start = subst (λ (ss : List State). IsStart records ss o added) texts opened.start;
+        fold = opened.folds.0;
+        folds = opened.folds.1;
+        opens = opened.folds.2;
+        recent = subst (λ (n : ℕ). HoldNoOld n before) as_many opened.recent;
         each = λ l lt.
-            let is = opens.log l (omega (arith, lt, as_many)) in
+            let is = opened.log l (omega (arith, lt, as_many)) in
             run_device (device_at before l) (device_at after l) (log_at old l) (log_at new l) is.0 (records_at records l) (first_groups l added) (groups_of (machine_of w o) l es)
             (tried_on failed l (group_behind (machine_of w o) l es)) is.1 (driven.each l (omega (arith, lt, old_many))) (device_is l lt);
         others = ap (λ (ds : List Device). drop w.logs ds) same ∙ (behind_logs new others w.logs new_many ∙ rest);
@@ -96,7 +99,7 @@ module _
     has_risen : (l : ℕ) → l < length old → Rose (log_at old l).faults (log_at new l).faults → (l < w.logs) × Rose (device_at before l).faults (device_at after l).faults
     has_risen l lt rose =
         let here : l < w.logs = omega (arith, lt, old_many) in
-        let is = opens.log l (omega (arith, here, as_many)) in
+        let is = opened.log l (omega (arith, here, as_many)) in
         let now : (device_at after l).faults ≡ (log_at new l).faults = ap (λ (d : Device). d.faults) (device_is l here) in (
           here,
           rose_earlier (device_at before l).faults (log_at old l).faults (log_at new l).faults (device_at after l).faults is.1.later (omega (arith, now)) rose,

@@ -174,6 +174,7 @@ IsAnswerOf p r status.OutFault =
 IsAnswerOf p r status.TraceFault =
     Rose r.trace.faults_before r.trace.faults_after × HasBegun r none_failed (λ o es. HasAnswered r.work o es × PrintsAll (printed_of p r o es))
 IsAnswerOf p r (status.Audit fault) = ⊥
+IsAnswerOf p r (status.Compact logs) = ⊥
 
 -- of the command that prints the report
 abbrev pub IsWorkAnswer : RunUse → Status → Type 0
@@ -197,6 +198,7 @@ IsOfLogs (status.LogFault log) = ⊤
 IsOfLogs status.OutFault = ⊥
 IsOfLogs status.TraceFault = ⊥
 IsOfLogs (status.Audit fault) = ⊥
+IsOfLogs (status.Compact logs) = ⊥
 
 -- ---- whether the output failed
 

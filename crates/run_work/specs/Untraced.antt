@@ -47,6 +47,7 @@ IsRunEnd Left d (status.LogFault log) = LeftFailed Left d.work d.schedule d.open
 IsRunEnd Left d status.OutFault = Left none_failed × Rose d.out.faults_before d.out.faults_after × (PrintsNext d ⊎ PrintsEnding d)
 IsRunEnd Left d status.TraceFault = ⊥
 IsRunEnd Left d (status.Audit fault) = ⊥
+IsRunEnd Left d (status.Compact logs) = ⊥
 
 -- ---- on all devices
 

@@ -1,5 +1,5 @@
 -- The lines of the output, byte for byte. A line ends with a line feed.
-use Rattle.std.specs.Prelude.{ℕ, zero, suc, ◌+◌, ℤ, pos, negsuc, Bool, true, false, if◌then◌else◌, Option, None, Some, List, [], ◌∷◌, ◌++◌, codes, count_by}
+use Rattle.std.specs.Prelude.{ℕ, zero, suc, ◌+◌, ℤ, pos, negsuc, Bool, true, false, if◌then◌else◌, Option, None, Some, List, [], ◌∷◌, ◌++◌, codes}
 use Rattle.std.specs.List.{flat_map}
 use Rattle.std.specs.Fmt.{decimal, signed_decimal}
 use Rattle.snap_base.specs.declared.ids.Bid.{Bid}
@@ -74,18 +74,10 @@ abbrev pub end_text : ℕ → ℕ → ℕ → List ℕ
 end_text committed aborted batches =
     codes "end committed " ++ (decimal committed ++ (codes " aborted " ++ (decimal aborted ++ (codes " batches " ++ (decimal batches ++ line_end)))))
 
-abbrev pub is_batch : Kept → Bool
-is_batch (kept.Batch bid tids values) = true
-is_batch (kept.Act tid m c value) = false
-
-abbrev pub is_act : Kept → Bool
-is_act (kept.Batch bid tids values) = false
-is_act (kept.Act tid m c value) = true
-
--- what logs recover to
-abbrev pub recovered_text : Opening → List ℕ
-recovered_text o =
-    codes "recovered batches " ++ (decimal (count_by is_batch o.committed) ++ (codes " acts " ++ (decimal (count_by is_act o.committed)
+-- how many batches and undeclared transactions are committed, and the next numbers
+abbrev pub recovered_text : ℕ → ℕ → Opening → List ℕ
+recovered_text batches acts o =
+    codes "recovered batches " ++ (decimal batches ++ (codes " acts " ++ (decimal acts
     ++ (codes " next " ++ (decimal o.next_tid.0 ++ (codes " " ++ (decimal o.next_bid.0 ++ (codes " " ++ (decimal o.next_c ++ line_end)))))))))
 
 -- ---- what is kept
@@ -126,6 +118,12 @@ all_kept_text committed = flat_map lines_of committed
 abbrev pub migrated_text : ℕ → List ℕ
 migrated_text logs = codes "migrated " ++ (decimal logs ++ line_end)
 
+-- ---- checkpoints
+
+-- the generation to which logs are compacted
+abbrev pub compacted_text : ℕ → List ℕ
+compacted_text generation = codes "compacted " ++ (decimal generation ++ line_end)
+
 -- ---- the status
 
 -- the program's exit status
@@ -140,6 +138,7 @@ status_number (status.LogFault log) = 6
 status_number status.OutFault = 7
 status_number status.TraceFault = 8
 status_number (status.Audit fault) = 10
+status_number (status.Compact logs) = 11
 
 abbrev pub text_cause_text : TextCause → List ℕ
 text_cause_text text.BadByte = codes "BadByte"
@@ -175,6 +174,7 @@ log_cause_text cause.NotALog = codes "NotALog"
 log_cause_text cause.Damage = codes "Damage"
 log_cause_text cause.OldFormat = codes "OldFormat"
 log_cause_text cause.BadRecord = codes "BadRecord"
+log_cause_text cause.Stray = codes "Stray"
 log_cause_text cause.NoGenesis = codes "NoGenesis"
 log_cause_text cause.TwoGenesis = codes "TwoGenesis"
 log_cause_text (cause.LogCount kept found) = codes "LogCount"
@@ -205,3 +205,4 @@ status_text (status.LogFault log) = codes "snapper: log fault " ++ (decimal log 
 status_text status.OutFault = codes "snapper: output fault" ++ line_end
 status_text status.TraceFault = codes "snapper: trace fault" ++ line_end
 status_text (status.Audit fault) = audit_text fault
+status_text (status.Compact logs) = codes "snapper: compact: " ++ (decimal logs ++ (codes " logs" ++ line_end))

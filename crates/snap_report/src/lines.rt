@@ -1,9 +1,9 @@
 //! The lines of replies, of actors, of a run's end, and of what logs recover to.
-ghost use Rattle.std.specs.Prelude.{◌≡◌, ◌<◌, ◌≤◌, IfOk, string_bytes, length, take, count_by};
-ghost use Rattle.snap_report.specs.Lines.{reply_text, actor_text, end_text, recovered_text, kept_text, migrated_text, shown_fields, is_batch, is_act};
+ghost use Rattle.std.specs.Prelude.{◌≡◌, ◌<◌, ◌≤◌, IfOk, string_bytes, length, take};
+ghost use Rattle.snap_report.specs.Lines.{reply_text, actor_text, end_text, recovered_text, kept_text, migrated_text, compacted_text, shown_fields};
 
 use snap_base::{ActorId, Memory, Place, State, TxNo, Verdict};
-use snap_recover::{Kept, Opening};
+use snap_recover::Opening;
 use std::alloc::Global;
 use std::fmt::Write;
 
@@ -53,11 +53,14 @@ pub fn end_line(alloc: Global, committed: u32, aborted: u32, batches: u32) -> Re
 
 /// The line of what logs recover to, behind the lines of the actors: how many batches and how many transactions
 /// outside of batches are committed, and the next transaction's, batch's and commit's number.
-pub fn recovered_line(alloc: Global, opening: &Opening) -> Result<String, Memory>
-    ensures { IfOk result (λ s. string_bytes s ≡ recovered_text opening.now) }
+pub fn recovered_line(
+    alloc: Global,
+    batches: u64,
+    acts: u64,
+    opening: &Opening,
+) -> Result<String, Memory>
+    ensures { IfOk result (λ s. string_bytes s ≡ recovered_text batches acts opening.now) }
 {
-    let committed = opening.committed.as_slice();
-    let (batches, acts) = (count_batches(committed), count_acts(committed));
     let (tid, bid, c) = (opening.next_tid, opening.next_bid, opening.next_c);
     Ok(format!(in alloc; "recovered batches {batches} acts {acts} next {tid} {bid} {c}\n")?)
 }
@@ -79,32 +82,9 @@ pub fn migrated_line(alloc: Global, logs: u8) -> Result<String, Memory>
     Ok(format!(in alloc; "migrated {logs}\n")?)
 }
 
-fn count_batches(committed: &[Kept]) -> usize
-    ensures { result ≡ count_by is_batch committed.now }
+/// The line of a compaction: the generation of the checkpoint that it wrote.
+pub fn compacted_line(alloc: Global, generation: u64) -> Result<String, Memory>
+    ensures { IfOk result (λ s. string_bytes s ≡ compacted_text generation) }
 {
-    committed.iter().filter(|kept| is_batch(kept)).count()
-}
-
-fn count_acts(committed: &[Kept]) -> usize
-    ensures { result ≡ count_by is_act committed.now }
-{
-    committed.iter().filter(|kept| is_act(kept)).count()
-}
-
-fn is_batch(kept: &Kept) -> bool
-    ensures { result ≡ is_batch kept.now }
-{
-    match kept {
-        Kept::Batch { .. } => true,
-        Kept::Act { .. } => false,
-    }
-}
-
-fn is_act(kept: &Kept) -> bool
-    ensures { result ≡ is_act kept.now }
-{
-    match kept {
-        Kept::Batch { .. } => false,
-        Kept::Act { .. } => true,
-    }
+    Ok(format!(in alloc; "compacted {generation}\n")?)
 }

@@ -48,6 +48,10 @@ pub enum Status {
     Audit {
         fault: AuditFault,
     },
+    /// 11: the logs are too many to be compacted: the two sides of a compaction have at most two each.
+    Compact {
+        logs: u8,
+    },
 }
 
 impl Status {
@@ -69,6 +73,7 @@ impl Status {
             Status::OutFault => 7,
             Status::TraceFault => 8,
             Status::Audit { .. } => 10,
+            Status::Compact { .. } => 11,
         }
     }
 }
@@ -94,6 +99,7 @@ pub fn status_line(alloc: Global, status: &Status) -> Result<String, Memory>
         Status::OutFault => Ok(String::from_str(alloc, "snapper: output fault\n")?),
         Status::TraceFault => Ok(String::from_str(alloc, "snapper: trace fault\n")?),
         Status::Audit { fault } => audit_line(alloc, fault),
+        Status::Compact { logs } => Ok(format!(in alloc; "snapper: compact: {logs} logs\n")?),
     }
 }
 
@@ -173,6 +179,7 @@ fn log_cause_name(cause: LogCause) -> &'static str
         LogCause::Damage => "Damage",
         LogCause::OldFormat => "OldFormat",
         LogCause::BadRecord => "BadRecord",
+        LogCause::Stray => "Stray",
         LogCause::NoGenesis => "NoGenesis",
         LogCause::TwoGenesis => "TwoGenesis",
         LogCause::LogCount { .. } => "LogCount",

@@ -36,6 +36,7 @@ ended p r (status.LogFault log) not sink trace a = absurd (not tt)
 ended p r status.OutFault not sink trace a = absurd (sink a.0)
 ended p r status.TraceFault not sink trace a = absurd (trace a.0)
 ended p r (status.Audit fault) not sink trace a = absurd a
+ended p r (status.Compact logs) not sink trace a = absurd a
 
 module _ (one : OneCommand) (apart : FaultOrWork) (u : Use) (text : List ℕ) (w : Work) (records : List (List Record)) (o : Opening) (t : IsUntroubled u text w records o) where
   -- the text is accepted

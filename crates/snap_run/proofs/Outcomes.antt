@@ -174,6 +174,7 @@ run_calls p r (status.LogFault log) a none = none
 run_calls p r status.OutFault a none = none
 run_calls p r status.TraceFault a none = none
 run_calls p r (status.Audit fault) a none = a
+run_calls p r (status.Compact logs) a none = a
 
 -- ---- the other command, and no command
 

@@ -1,5 +1,5 @@
 -- Where nothing stands in the way of the commands that recover the logs, only two answers are left.
-use Rattle.std.proofs.Common.{◌≡◌, ◌≢◌, ◌⊎◌, inl, inr, ℕ, ◌<◌, zero, suc, List, [], ◌∷◌, length, take, get_or, refl, sym, ◌∙◌, ap, subst, arith}
+use Rattle.std.proofs.Common.{◌≡◌, ◌⊎◌, inl, inr, ℕ, ◌<◌, zero, suc, List, [], ◌∷◌, length, take, get_or, refl, sym, ◌∙◌, ap, subst, arith}
 use Rattle.std.specs.Prelude.{IfSome}
 use Rattle.std.specs.List.{AllZip}
 use Rattle.command_words.specs.CommandLaws.{OneCommand}
@@ -11,18 +11,18 @@ use Rattle.record_log.specs.gate_log.Opened.{Opened, Refused}
 use Rattle.record_log.specs.txn_records.declared.records.Record.{Record}
 use Rattle.record_log.specs.Records.{HoldsRecords}
 use Rattle.record_log.specs.RecordLogLaws.{OneListOfRecords, RecordsAreNotForeign, RecordsAreNotDamaged, NoRecordIsBad}
-use Rattle.snap_recover.specs.declared.openings.Opening.{Opening}
-use Rattle.snap_recover.specs.declared.refusals.RecoverNo.{RecoverNo}
 use Rattle.snap_recover.specs.declared.refusals.RecoverNo.TheVariants as recover
-use Rattle.snap_recover.specs.Opening.{IsRecovered}
-use Rattle.snap_recover.specs.Refusals.{IsRefused}
 use Rattle.snap_recover.specs.declared.causes.LogCause.{LogCause}
 use Rattle.snap_recover.specs.declared.causes.LogCause.TheVariants as cause
 use Rattle.snap_report.specs.declared.statuses.Status.{Status}
 use Rattle.snap_report.specs.declared.statuses.Status.TheVariants as status
 use Rattle.log_opening.specs.Devices.{Device, device_at}
-use Rattle.log_opening.specs.Found.{IsRecoveryCause}
+use Rattle.log_opening.specs.Found.{IsFoldCause}
 use Rattle.log_opening.specs.Kept.{logs_said, DeviceHolds, AreGiven, IsLogAsked, IsLogRefused}
+use Rattle.log_opening.specs.log_compact.declared.folds.Folded.{Folded}
+use Rattle.log_opening.specs.log_compact.declared.refusals.FoldNo.TheVariants as fold
+use Rattle.log_opening.specs.log_compact.Folds.{RefusedAreNotFolded}
+use Rattle.log_opening.specs.log_compact.Sets.{IsFolded}
 use Rattle.run_work.specs.run_opening.Opens.{TellsRecords}
 use Rattle.run_work.specs.run_recovery.Recoverable.{AreRecoverable}
 use Rattle.snap_run.specs.Uses.{Use}
@@ -31,10 +31,6 @@ use Rattle.snap_run.specs.Migrations.{IsMigrateAnswer, migrate_done, migrate_ref
 use Rattle.snap_run.specs.Recoveries.{IsRecoverAnswer, recover_done, recover_refused, recover_memory, recover_log_fault, recover_out_fault}
 use Rattle.snap_run.proofs.Outcomes.{not_both, recover_not_gen, recover_not_bench, run_not_migrate, recover_not_migrate, gen_not_migrate, bench_not_migrate, recover_not_audit, migrate_not_audit}
 
--- what the law refused_is_not_recovered of snap_recover says
-abbrev pub NeverBoth : Type 0
-NeverBoth = (logs : List (List Record)) (no : RecoverNo) (o : Opening) → no ≢ recover.Memory → IsRefused logs no → ¬ IsRecovered logs o
-
 -- what the laws of records say
 pub record RecordLaws : Type 0 where
   pub one_list : OneListOfRecords
@@ -42,19 +38,22 @@ pub record RecordLaws : Type 0 where
   pub damaged : RecordsAreNotDamaged
   pub bad : NoRecordIsBad
 
-recovers_not_refused : (never : NeverBoth) (logs : List (List Record)) (o : Opening) (log : ℕ) (c : LogCause) → IsRecovered logs o → IsRecoveryCause logs log c → ⊥
-recovers_not_refused never logs o log cause.NotALog on x = x
-recovers_not_refused never logs o log cause.Damage on x = x
-recovers_not_refused never logs o log cause.OldFormat on x = x
-recovers_not_refused never logs o log cause.BadRecord on x = x
-recovers_not_refused never logs o log cause.NoGenesis on x = never logs recover.NoGenesis o (λ e. cc) x.1 on
-recovers_not_refused never logs o log cause.TwoGenesis on x = never logs recover.TwoGenesis o (λ e. cc) x.1 on
-recovers_not_refused never logs o log (cause.LogCount kept found) on x = never logs (recover.LogCount kept found) o (λ e. cc) x.1 on
-recovers_not_refused never logs o log (cause.Range k) on x = never logs (recover.Range k log) o (λ e. cc) x on
-recovers_not_refused never logs o log (cause.Missing k) on x = never logs (recover.Missing k log) o (λ e. cc) x on
-recovers_not_refused never logs o log (cause.Values k kept found) on x = never logs (recover.Values k log kept found) o (λ e. cc) x on
-recovers_not_refused never logs o log (cause.Spent number) on x = x
-recovers_not_refused never logs o log (cause.Differs what kept text) on x = x
+-- what folds is not refused
+folds_not_refused : (never : RefusedAreNotFolded) (logs : List (List Record)) (f : Folded) (log : ℕ) (c : LogCause) → IsFolded logs f → IsFoldCause logs log c → ⊥
+folds_not_refused never logs f log cause.NotALog on x = x
+folds_not_refused never logs f log cause.Damage on x = x
+folds_not_refused never logs f log cause.OldFormat on x = x
+folds_not_refused never logs f log cause.BadRecord on x = x
+folds_not_refused never logs f log cause.Stray on x = never logs (fold.Stray log) f (λ e. cc) x on
+folds_not_refused never logs f log cause.NoGenesis on x = never logs (fold.Recover recover.NoGenesis) f (λ e. cc) x.1 on
+folds_not_refused never logs f log cause.TwoGenesis on x = never logs (fold.Recover recover.TwoGenesis) f (λ e. cc) x.1 on
+folds_not_refused never logs f log (cause.LogCount kept found) on x = never logs (fold.Recover (recover.LogCount kept found)) f (λ e. cc) x.1 on
+folds_not_refused never logs f log (cause.Range k) on (inl x) = never logs (fold.Range k log) f (λ e. cc) x on
+folds_not_refused never logs f log (cause.Range k) on (inr x) = never logs (fold.Recover (recover.Range k log)) f (λ e. cc) x on
+folds_not_refused never logs f log (cause.Missing k) on x = never logs (fold.Recover (recover.Missing k log)) f (λ e. cc) x on
+folds_not_refused never logs f log (cause.Values k kept found) on x = never logs (fold.Recover (recover.Values k log kept found)) f (λ e. cc) x on
+folds_not_refused never logs f log (cause.Spent number) on x = x
+folds_not_refused never logs f log (cause.Differs what kept text) on x = x
 
 -- ---- what the devices hold
 
@@ -87,8 +86,8 @@ holds_first (suc n) (b ∷ bs) (x ∷ xs) others first is all = let same : x ≡
 
 -- ---- as many logs as log 0 says
 
-module _ (one : OneCommand) (laws : RecordLaws) (never : NeverBoth) (u : Use) (logs : List (List Record))
-    (recovers : (o : Opening) × AreRecoverable u.devices_before logs o)
+module _ (one : OneCommand) (laws : RecordLaws) (never : RefusedAreNotFolded) (u : Use) (logs : List (List Record))
+    (recovers : (f : Folded) × AreRecoverable u.devices_before logs f)
     (quiet : (log : ℕ) → log < length u.devices_before → ¬ Rose (device_at u.devices_before log).faults (device_at u.devices_after log).faults)
     (sink : ¬ Rose u.writing.faults_before u.writing.faults_after)
   where
@@ -111,9 +110,9 @@ module _ (one : OneCommand) (laws : RecordLaws) (never : NeverBoth) (u : Use) (l
         let many : length xs ≡ length logs = given.3 ∙ said given.0 (holds_first (length xs) u.devices_before xs given.1 given.0 given.2 given.5) in
         same_logs laws.one_list (take (length logs) u.devices_before) xs logs (subst (λ (n : ℕ). AllZip DeviceHolds (take n u.devices_before) xs) many given.5) recovers.1.told
 
-    given_not_refused : (xs : List (List Record)) (log : ℕ) (c : LogCause) → AreGiven u.devices_before xs → IsRecoveryCause xs log c → ⊥
+    given_not_refused : (xs : List (List Record)) (log : ℕ) (c : LogCause) → AreGiven u.devices_before xs → IsFoldCause xs log c → ⊥
     given_not_refused xs log c given why =
-        recovers_not_refused never logs recovers.0 log c recovers.1.recovered (subst (λ (l : List (List Record)). IsRecoveryCause l log c) (given_same xs given) why)
+        folds_not_refused never logs recovers.0 log c recovers.1.folded (subst (λ (l : List (List Record)). IsFoldCause l log c) (given_same xs given) why)
 
     none_refused : (after : List Device) (log offset : ℕ) (c : LogCause) → IsLogRefused u.devices_before after log offset c → ⊥
     none_refused after log offset cause.NotALog x =
@@ -128,6 +127,7 @@ module _ (one : OneCommand) (laws : RecordLaws) (never : NeverBoth) (u : Use) (l
         let tells = told_at (length logs) u.devices_before logs log recovers.1.told (asked_below log x.0) in
         let opened = subst (λ o. Opened o (device_at after log).told x.1.0 x.1.1) tells.1 x.1.2 in
         laws.bad tells.0 (device_at after log).told x.1.0 offset x.1.1 (get_or logs log []) opened tells.2 x.1.3
+    none_refused after log offset cause.Stray x = given_not_refused x.1.0 log cause.Stray x.1.1 x.1.2
     none_refused after log offset cause.NoGenesis x = given_not_refused x.1.0 log cause.NoGenesis x.1.1 x.1.2
     none_refused after log offset cause.TwoGenesis x = given_not_refused x.1.0 log cause.TwoGenesis x.1.1 x.1.2
     none_refused after log offset (cause.LogCount k f) x = given_not_refused x.1.0 log (cause.LogCount k f) x.1.1 x.1.2
@@ -141,11 +141,11 @@ module _ (one : OneCommand) (laws : RecordLaws) (never : NeverBoth) (u : Use) (l
     -- ---- the answers that are left
 
     recover_completed : (s : Status) → IsRecoverAnswer u.devices_before u.devices_after u.writing s → (s ≡ status.Done) ⊎ (s ≡ status.Memory)
-    recover_completed s (recover_done o is writes) = inl refl
+    recover_completed s (recover_done f is writes) = inl refl
     recover_completed s (recover_refused log offset c is nothing) = absurd (none_refused u.devices_after log offset c is)
     recover_completed s (recover_memory lacks nothing) = inr refl
     recover_completed s (recover_log_fault log failed nothing) = absurd (quiet log failed.0 failed.1)
-    recover_completed s (recover_out_fault o is front rose) = absurd (sink rose)
+    recover_completed s (recover_out_fault f is front rose) = absurd (sink rose)
 
     migrate_completed : (s : Status) → IsMigrateAnswer u.devices_before u.devices_after u.writing s → (s ≡ status.Done) ⊎ (s ≡ status.Memory)
     migrate_completed s (migrate_done count is writes) = inl refl

@@ -116,6 +116,7 @@ GetsNoCall (status.LogFault log) = ⊥
 GetsNoCall status.OutFault = ⊥
 GetsNoCall status.TraceFault = ⊥
 GetsNoCall (status.Audit fault) = ⊤
+GetsNoCall (status.Compact logs) = ⊥
 
 -- The words run the input; it stands for a work; its logs hold records on which a run of it begins, if any; and no count
 -- rises.

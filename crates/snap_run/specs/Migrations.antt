@@ -8,7 +8,7 @@ use Rattle.run_work.specs.run_recovery.Recoverable.{AreRecoverable}
 use Rattle.run_work.specs.Writings.{Writing, WritesNothing, Writes, WritesFront}
 use Rattle.snap_outside.specs.Causes.{Rose}
 use Rattle.snap_recover.specs.declared.causes.LogCause.{LogCause}
-use Rattle.snap_recover.specs.declared.openings.Opening.{Opening}
+use Rattle.log_opening.specs.log_compact.declared.folds.Folded.{Folded}
 use Rattle.snap_report.specs.Lines.{migrated_text}
 use Rattle.snap_report.specs.declared.statuses.Status.{Status}
 use Rattle.snap_report.specs.declared.statuses.Status.TheVariants as status
@@ -29,6 +29,6 @@ pub data IsMigrateAnswer (before after : List Device) (out : Writing) : Status �
 -- The words migrate the logs; these are as many as log 0 says, hold these records, and recover; and no count rises.
 pub record IsMigratable (u : Use) (logs : List (List Record)) : Type 0 where
   pub migrate : IsMigrate u.words
-  pub recovers : (o : Opening) × AreRecoverable u.devices_before logs o
+  pub recovers : (f : Folded) × AreRecoverable u.devices_before logs f
   pub devices : (log : ℕ) → log < length u.devices_before → ¬ Rose (device_at u.devices_before log).faults (device_at u.devices_after log).faults
   pub sink : ¬ Rose u.writing.faults_before u.writing.faults_after

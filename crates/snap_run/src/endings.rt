@@ -20,9 +20,9 @@ ghost use Rattle.record_log.specs.txn_records.declared.records.Record.{Record};
 
 use command_words::one_command;
 use input_laws::{an_input_in_order_has_no_fault, one_first_fault};
+use log_migration::refused_are_not_folded;
 use record_log::{no_more_records, one_list_of_records};
 use run_work::Event;
-use snap_recover::refused_is_not_recovered;
 use snap_report::Status;
 use work_gen::fault_or_work;
 
@@ -57,7 +57,7 @@ pub(crate) fn done_or_no_memory()
         → IsOutcome u s → IsBench u.words count seed workers → MayBeMeasured u count seed w records o → ¬ IsOfLogs s → (s ≡ status.Done) ⊎ (s ≡ status.Memory) }
 {
     one_command();
-    refused_is_not_recovered();
+    refused_are_not_folded();
     fault_or_work();
     one_list_of_records();
     no_more_records();

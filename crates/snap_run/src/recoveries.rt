@@ -8,10 +8,10 @@ ghost use Rattle.snap_report.specs.Lines.{actors_text, all_kept_text, batch_text
 ghost use Rattle.run_work.specs.Writings.{writing_of};
 ghost use Rattle.snap_run.specs.Recoveries.{recovered_report, IsRecoverAnswer};
 
-use log_opening::recover_kept;
+use log_opening::{Folded, recover_kept};
 use run_work::{ActorId, Bid, Memory, Place, State, Tid, push_actor, status_of, write_all};
 use snap_outside::{LogDev, Sink};
-use snap_recover::{Kept, Opening};
+use snap_recover::Kept;
 use snap_report::{Status, kept_line, recovered_line};
 use std::alloc::Global;
 
@@ -28,11 +28,11 @@ pub(crate) fn print_recovered<D: LogDev, O: Sink>(
     ensures opened { AllZip IsOpenedAtMost (devices_of D.told D.faults devices.old.items) (devices_of D.told D.faults devices.new.items) }
     ensures safe { AllZip (λ (a b : Device). KeepsRecords a.told b.told) (devices_of D.told D.faults devices.old.items) (devices_of D.told D.faults devices.new.items) }
 {
-    let opening = match recover_kept(alloc, devices) {
-        Ok(opening) => opening,
+    let folded = match recover_kept(alloc, devices) {
+        Ok(folded) => folded,
         Err(no) => return status_of(no),
     };
-    let Ok(report) = report_of(alloc, &opening) else {
+    let Ok(report) = report_of(alloc, &folded) else {
         return Status::Memory;
     };
     if write_all(out, report.as_bytes()).is_err() {
@@ -42,14 +42,15 @@ pub(crate) fn print_recovered<D: LogDev, O: Sink>(
 }
 
 /// The lines of the actors, those of what is kept, and what is recovered.
-fn report_of(alloc: Global, opening: &Opening) -> Result<String, Memory>
-    requires { length opening.now.states ≤ 256 }
-    ensures { IfOk result (λ s. string_bytes s ≡ recovered_report opening.now) }
+fn report_of(alloc: Global, folded: &Folded) -> Result<String, Memory>
+    requires { length folded.now.opening.states ≤ 256 }
+    ensures { IfOk result (λ s. string_bytes s ≡ recovered_report folded.now) }
 {
+    let opening = &folded.opening;
     let mut text = String::new(alloc);
     push_actors(alloc, &mut text, opening.states.as_slice())?;
     push_all_kept(alloc, &mut text, opening.committed.as_slice())?;
-    let line = recovered_line(alloc, opening)?;
+    let line = recovered_line(alloc, folded.batches, folded.acts, opening)?;
     text.push_str(line.as_str())?;
     Ok(text)
 }

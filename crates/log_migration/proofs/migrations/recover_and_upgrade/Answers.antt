@@ -11,7 +11,7 @@ returns-in-Ok-clause-answered g c =
     let told = g.D.LogDev.told in
     let faults = g.D.LogDev.faults in
     told_migrated string_bytes (devices_now told faults c.args.opened.now.logs.items c.args.devices.now.items) (devices_of told faults c.open_and_recover.new.devices.items)
-    c.open_and_recover.new.opened.logs.items c.tell_and_upgrade.new.opened.logs.items c.open_and_recover.new.opened.found c.in-Ok._opening c.tell_and_upgrade.result
+    c.open_and_recover.new.opened.logs.items c.tell_and_upgrade.new.opened.logs.items c.open_and_recover.new.opened.found c.in-Ok._folded c.tell_and_upgrade.result
     c.in-Ok.ensures.recovered c.tell_and_upgrade.ensures.told c.tell_and_upgrade.ensures.failed
 
 pub returns-in-Ok-clause-safe : goal.returns-in-Ok-clause-safe

@@ -1,22 +1,15 @@
-use Rattle.std.proofs.Common.{List, subst}
-use Rattle.std.specs.Prelude.{MatchResult}
-use Rattle.txn_records.specs.declared.records.Record.{Record}
-use Rattle.snap_recover.specs.Opening.{IsRecovered}
 use Rattle.log_opening.specs.Devices.{devices_now}
-use Rattle.log_opening.specs.Found.{IsNoRecovery}
-use Rattle.log_opening.proofs.Flow.{recovered_open, refused_open}
+use Rattle.log_opening.proofs.Flow.{folded_open, refused_open}
 use Rattle.log_opening.proofs.recovery.open_and_recover.Goals as goal
 
 pub returns-in-Ok-clause-recovered : goal.returns-in-Ok-clause-recovered
 returns-in-Ok-clause-recovered g c =
-    recovered_open (devices_now g.D.LogDev.told g.D.LogDev.faults c.args.opened.now.logs.items c.args.devices.now.items)
+    folded_open (devices_now g.D.LogDev.told g.D.LogDev.faults c.args.opened.now.logs.items c.args.devices.now.items)
     (devices_now g.D.LogDev.told g.D.LogDev.faults c.open_and_read.new.opened.logs.items c.open_and_read.new.devices.items)
-    c.open_and_read.new.opened.logs.items c.open_and_read.new.opened.found c.in-Ok.logs c.recover_records.result c.in-Ok.ensures.read c.in-Ok.ensures.many c.in-Ok.ensures.open
-    (subst (λ (l : List (List Record)). MatchResult c.recover_records.result (λ o. IsRecovered l o) (λ a. IsNoRecovery l a)) c.as_slice.ensures c.recover_records.ensures)
+    c.open_and_read.new.opened.logs.items c.open_and_read.new.opened.found c.in-Ok.logs c.fold_records.result c.in-Ok.ensures.read c.in-Ok.ensures.many c.in-Ok.ensures.open c.fold_records.ensures
 
 pub returns-in-Ok-clause-refused : goal.returns-in-Ok-clause-refused
 returns-in-Ok-clause-refused g c =
     refused_open (devices_now g.D.LogDev.told g.D.LogDev.faults c.args.opened.now.logs.items c.args.devices.now.items)
     (devices_now g.D.LogDev.told g.D.LogDev.faults c.open_and_read.new.opened.logs.items c.open_and_read.new.devices.items)
-    c.in-Ok.logs c.recover_records.result c.in-Ok.ensures.read
-    (subst (λ (l : List (List Record)). MatchResult c.recover_records.result (λ o. IsRecovered l o) (λ a. IsNoRecovery l a)) c.as_slice.ensures c.recover_records.ensures)
+    c.in-Ok.logs c.fold_records.result c.in-Ok.ensures.read c.fold_records.ensures

@@ -1,9 +1,4 @@
-use Rattle.std.proofs.Common.{List, subst}
-use Rattle.std.specs.Prelude.{MatchResult}
-use Rattle.txn_records.specs.declared.records.Record.{Record}
-use Rattle.snap_recover.specs.Opening.{IsRecovered}
 use Rattle.log_opening.specs.Devices.{devices_of}
-use Rattle.log_opening.specs.Found.{IsNoRecovery}
 use Rattle.log_opening.proofs.Opening.{touched_opened, touched_safe, touched_later}
 use Rattle.log_opening.proofs.Flow.{read_refused, read_few}
 use Rattle.log_opening.proofs.recovery.recover_kept.Goals as goal
@@ -11,14 +6,12 @@ use Rattle.log_opening.proofs.recovery.recover_kept.Goals as goal
 pub returns-in-Ok-clause-refused : goal.returns-in-Ok-clause-refused
 returns-in-Ok-clause-refused g c =
     read_refused (devices_of g.D.LogDev.told g.D.LogDev.faults c.args.devices.now.items) (devices_of g.D.LogDev.told g.D.LogDev.faults c.all_records.new.devices.items)
-    c.in-Ok.logs c.recover_records.result c.in-Ok.ensures.read
-    (subst (λ (l : List (List Record)). MatchResult c.recover_records.result (λ o. IsRecovered l o) (λ a. IsNoRecovery l a)) c.as_slice.ensures c.recover_records.ensures)
+    c.in-Ok.logs c.fold_records.result c.in-Ok.ensures.read c.fold_records.ensures
 
 pub returns-in-Ok-clause-actors : goal.returns-in-Ok-clause-actors
 returns-in-Ok-clause-actors g c =
     read_few (devices_of g.D.LogDev.told g.D.LogDev.faults c.args.devices.now.items) (devices_of g.D.LogDev.told g.D.LogDev.faults c.all_records.new.devices.items)
-    c.in-Ok.logs c.recover_records.result c.recovered_states.ensures.few c.in-Ok.ensures.read
-    (subst (λ (l : List (List Record)). MatchResult c.recover_records.result (λ o. IsRecovered l o) (λ a. IsNoRecovery l a)) c.as_slice.ensures c.recover_records.ensures)
+    c.in-Ok.logs c.fold_records.result c.folds_are_of_records.ensures c.in-Ok.ensures.read c.fold_records.ensures
 
 pub returns-in-Ok-clause-opened : goal.returns-in-Ok-clause-opened
 returns-in-Ok-clause-opened g c = touched_opened _ _ c.in-Ok.ensures.read.touched

@@ -5,4 +5,4 @@ pub returns-clause-unwritten : goal.returns-clause-unwritten
 returns-clause-unwritten c = begins_unwritten
 
 pub returns-clause-written : goal.returns-clause-written
-returns-clause-written c = begins_written c.begun_logs_are_recovered.ensures
+returns-clause-written c = begins_written c.begun_lists_fold.ensures

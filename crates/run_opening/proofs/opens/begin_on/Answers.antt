@@ -1,9 +1,9 @@
-use Rattle.std.proofs.Common.{◌≡◌, ◌≤◌, List, ap, sym, ◌∙◌, subst, arith, rules, length}
+use Rattle.std.proofs.Common.{◌≡◌, ◌≤◌, List, sym, ◌∙◌, subst, arith, rules, length}
 use Rattle.std.specs.List.{AllByRecursion}
 use Rattle.txn_records.specs.declared.records.Record.{Record}
 use Rattle.txn_records.specs.Records.{IsRecord}
 use Rattle.log_opening.specs.Devices.{Device, devices_of, devices_now}
-use Rattle.run_opening.specs.Starts.{IsStart, IsNoStart}
+use Rattle.run_opening.specs.Starts.{IsStart}
 use Rattle.gate_log.specs.State.{log_at}
 use Rattle.run_opening.specs.Writes.{IsWritten, IsNotWritten}
 use Rattle.run_opening.proofs.RunLogs.{LogLaws}
@@ -21,7 +21,7 @@ start_from-requires-clause-logs g c =
     let found = c.open_and_decode.new.opened.found in
     let lie = c.in-Ok.ensures.read in
     let many : length c.in-Ok.records ≡ c.args.count = as_many before mid logs found c.in-Ok.records lie ∙ c.in-Ok.ensures.count.0 in
-    omega (arith, many, c.requires.few_logs, ap (λ (l : List (List Record)). length l) c.as_slice.ensures)
+    omega (arith, many, c.requires.few_logs)
 
 pub write_first-requires-clause-records : goal.write_first-requires-clause-records
 write_first-requires-clause-records g c =
@@ -34,11 +34,10 @@ write_first-requires-clause-records g c =
     let found = c.open_and_decode.new.opened.found in
     let lie = c.in-Ok.ensures.read in
     let many : length c.in-Ok.records ≡ c.args.count = as_many before mid logs found c.in-Ok.records lie ∙ c.in-Ok.ensures.count.0 in
-    let start : IsStart c.in-Ok.records c.args.states.now c.in-Ok-start_from.start.opening c.in-Ok-start_from.start.added =
-    subst (λ (l : List (List Record)). IsStart l c.args.states.now c.in-Ok-start_from.start.opening c.in-Ok-start_from.start.added) c.as_slice.ensures c.in-Ok-start_from.ensures in
+    let start : IsStart c.in-Ok.records c.args.states.now c.in-Ok-start_from.start.opening c.in-Ok-start_from.start.added = c.in-Ok-start_from.ensures in
     let added = added_records c.args.count c.args.states.now c.in-Ok.records c.in-Ok-start_from.start.opening c.in-Ok-start_from.start.added many c.requires.some_logs c.requires.few_logs
     c.requires.some c.requires.few c.requires.states start in
-    subst (λ (l : List Record). AllByRecursion IsRecord l) (sym c.as_slice-2.ensures) added.0
+    subst (λ (l : List Record). AllByRecursion IsRecord l) (sym c.as_slice.ensures) added.0
 
 pub write_first-requires-clause-one : goal.write_first-requires-clause-one
 write_first-requires-clause-one g c =
@@ -51,11 +50,10 @@ write_first-requires-clause-one g c =
     let found = c.open_and_decode.new.opened.found in
     let lie = c.in-Ok.ensures.read in
     let many : length c.in-Ok.records ≡ c.args.count = as_many before mid logs found c.in-Ok.records lie ∙ c.in-Ok.ensures.count.0 in
-    let start : IsStart c.in-Ok.records c.args.states.now c.in-Ok-start_from.start.opening c.in-Ok-start_from.start.added =
-    subst (λ (l : List (List Record)). IsStart l c.args.states.now c.in-Ok-start_from.start.opening c.in-Ok-start_from.start.added) c.as_slice.ensures c.in-Ok-start_from.ensures in
+    let start : IsStart c.in-Ok.records c.args.states.now c.in-Ok-start_from.start.opening c.in-Ok-start_from.start.added = c.in-Ok-start_from.ensures in
     let added = added_records c.args.count c.args.states.now c.in-Ok.records c.in-Ok-start_from.start.opening c.in-Ok-start_from.start.added many c.requires.some_logs c.requires.few_logs
     c.requires.some c.requires.few c.requires.states start in
-    subst (λ (l : List Record). length l ≤ 1) (sym c.as_slice-2.ensures) added.1
+    subst (λ (l : List Record). length l ≤ 1) (sym c.as_slice.ensures) added.1
 
 pub write_first-requires-clause-low : goal.write_first-requires-clause-low
 write_first-requires-clause-low g c =
@@ -107,7 +105,7 @@ returns-in-Err-start_from-clause-begun g c =
     let found = c.open_and_decode.new.opened.found in
     let lie = c.in-Ok.ensures.read in
     not_started c.args.count c.args.states.now before mid logs found c.in-Ok.records c.in-Err-start_from.no c.in-Ok.ensures.count.0 lie
-    (subst (λ (l : List (List Record)). IsNoStart l c.args.states.now c.in-Err-start_from.no) c.as_slice.ensures c.in-Err-start_from.ensures)
+    c.in-Err-start_from.ensures
 
 pub returns-in-Ok-write_first-clause-begun : goal.returns-in-Ok-write_first-clause-begun
 returns-in-Ok-write_first-clause-begun g c =
@@ -122,7 +120,7 @@ returns-in-Ok-write_first-clause-begun g c =
       group = c.history_grows.ensures.group;
       fault = c.history_grows.ensures.fault;
     } in
-    let laws : Laws = record { logs = log_laws; states = c.recovered_states.ensures.states; begun = c.begun_logs_are_recovered.ensures } in
+    let laws : Laws = record { logs = log_laws; of_records = c.folds_are_of_records.ensures; begun = c.folds_are_begun.ensures; fresh = c.begun_lists_fold.ensures } in
     let told = g.D.LogDev.told in
     let faults = g.D.LogDev.faults in
     let before : List Device = devices_now told faults c.args.opened.now.logs.items c.args.devices.now.items in
@@ -132,14 +130,13 @@ returns-in-Ok-write_first-clause-begun g c =
     let found = c.open_and_decode.new.opened.found in
     let lie = c.in-Ok.ensures.read in
     let many : length c.in-Ok.records ≡ c.args.count = as_many before mid logs found c.in-Ok.records lie ∙ c.in-Ok.ensures.count.0 in
-    let start : IsStart c.in-Ok.records c.args.states.now c.in-Ok-start_from.start.opening c.in-Ok-start_from.start.added =
-    subst (λ (l : List (List Record)). IsStart l c.args.states.now c.in-Ok-start_from.start.opening c.in-Ok-start_from.start.added) c.as_slice.ensures c.in-Ok-start_from.ensures in
+    let start : IsStart c.in-Ok.records c.args.states.now c.in-Ok-start_from.start.opening c.in-Ok-start_from.start.added = c.in-Ok-start_from.ensures in
     has_begun laws c.args.count c.args.states.now before logs c.write_first.new.logs.items others found c.in-Ok.records c.in-Ok-start_from.start.opening c.in-Ok-start_from.start.added
     c.in-Ok.ensures.count.0 c.requires.some_logs lie c.requires.states start (search rules) c.write_first.ensures.others
-    (subst (λ (l : List Record). IsWritten (log_at logs 0) (log_at c.write_first.new.logs.items 0) l) c.as_slice-2.ensures c.in-Ok-write_first.ensures.written)
+    (subst (λ (l : List Record). IsWritten (log_at logs 0) (log_at c.write_first.new.logs.items 0) l) c.as_slice.ensures c.in-Ok-write_first.ensures.written)
 
-pub returns-clause-begun : goal.returns-clause-begun
-returns-clause-begun g c =
+pub returns-in-Err-write_first-clause-begun : goal.returns-in-Err-write_first-clause-begun
+returns-in-Err-write_first-clause-begun g c =
     let log_laws : LogLaws = record {
       one_reading = c.one_reading.ensures;
       adds = c.opening_is_safe.ensures.adds;
@@ -151,7 +148,7 @@ returns-clause-begun g c =
       group = c.history_grows.ensures.group;
       fault = c.history_grows.ensures.fault;
     } in
-    let laws : Laws = record { logs = log_laws; states = c.recovered_states.ensures.states; begun = c.begun_logs_are_recovered.ensures } in
+    let laws : Laws = record { logs = log_laws; of_records = c.folds_are_of_records.ensures; begun = c.folds_are_begun.ensures; fresh = c.begun_lists_fold.ensures } in
     let told = g.D.LogDev.told in
     let faults = g.D.LogDev.faults in
     let before : List Device = devices_now told faults c.args.opened.now.logs.items c.args.devices.now.items in
@@ -161,8 +158,7 @@ returns-clause-begun g c =
     let found = c.open_and_decode.new.opened.found in
     let lie = c.in-Ok.ensures.read in
     let many : length c.in-Ok.records ≡ c.args.count = as_many before mid logs found c.in-Ok.records lie ∙ c.in-Ok.ensures.count.0 in
-    let start : IsStart c.in-Ok.records c.args.states.now c.in-Ok-start_from.start.opening c.in-Ok-start_from.start.added =
-    subst (λ (l : List (List Record)). IsStart l c.args.states.now c.in-Ok-start_from.start.opening c.in-Ok-start_from.start.added) c.as_slice.ensures c.in-Ok-start_from.ensures in
+    let start : IsStart c.in-Ok.records c.args.states.now c.in-Ok-start_from.start.opening c.in-Ok-start_from.start.added = c.in-Ok-start_from.ensures in
     has_not_begun laws c.args.count c.args.states.now before logs c.write_first.new.logs.items others found c.in-Ok.records c.in-Ok-start_from.start.opening c.in-Ok-start_from.start.added
     c.in-Err-write_first.no c.in-Ok.ensures.count.0 c.requires.some_logs lie start (search rules) c.write_first.ensures.others
-    (subst (λ (l : List Record). IsNotWritten (log_at logs 0) (log_at c.write_first.new.logs.items 0) l c.in-Err-write_first.no) c.as_slice-2.ensures c.in-Err-write_first.ensures.written)
+    (subst (λ (l : List Record). IsNotWritten (log_at logs 0) (log_at c.write_first.new.logs.items 0) l c.in-Err-write_first.no) c.as_slice.ensures c.in-Err-write_first.ensures.written)

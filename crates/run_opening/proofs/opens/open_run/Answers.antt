@@ -155,8 +155,8 @@ returns-in-Err-clause-complete g c =
       foreign = c.no_more_records.ensures.foreign;
       damaged = c.no_more_records.ensures.damaged;
       bad = c.no_more_records.ensures.bad;
-      one_opening = c.one_opening.ensures;
-      never_both = c.refused_is_not_recovered.ensures;
+      one_fold = c.one_fold.ensures;
+      never_both = c.refused_are_not_folded.ensures;
     } in
     λ records o may. completing.completed laws c.args.count c.args.states.now before (devices_of told faults c.close.new.devices.items) records o (omega (arith, devices_long told faults c.args.devices.now.items, c.requires.four, c.requires.few_logs, c.args.devices.now.ok.0)) may (omega (arith, c.requires.some_logs)) c.in-Err.no ended.why
 

@@ -4,10 +4,9 @@ use Rattle.run_recovery.proofs.laws.runs_are_recovered.Goals as goal
 
 pub returns : goal.returns
 returns c = recovers (methods_of c.args.program.now) (record {
-  members = c.logs_recover_to_the_members.ensures;
+  members = c.logs_fold_to_the_members.ensures;
   meant = c.logs_recover_as_meant.ensures;
   in_order = c.recovered_transactions_are_in_order.ensures;
   moment = c.groups_are_whole.ensures.moment;
   durable = c.groups_grow.ensures.durable;
-  begun = c.begun_logs_are_recovered.ensures;
 })

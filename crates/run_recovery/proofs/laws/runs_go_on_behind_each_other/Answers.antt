@@ -12,7 +12,7 @@ returns c xs of_them behind =
     go_on_behind (record {
       begin = c.beginnings_are_recovered.ensures;
       go_on = c.crashed_runs_go_on.ensures;
-      opening = c.one_opening.ensures;
+      fold = c.one_fold.ensures;
       list = c.one_list_of_records.ensures;
       calls = c.unbegun_calls_lose_nothing.ensures;
     }) (map methods_of ps) all xs of_them behind

@@ -10,12 +10,12 @@ returns-clause-complete c = λ u s text w records o out untroubled not.
 pub returns-clause-complete_recover : goal.returns-clause-complete_recover
 returns-clause-complete_recover c = λ u s kept out may.
     let laws : RecordLaws = record { one_list = c.one_list_of_records.ensures; foreign = c.no_more_records.ensures.foreign; damaged = c.no_more_records.ensures.damaged; bad = c.no_more_records.ensures.bad } in
-    completed_recover c.one_command.ensures laws c.refused_is_not_recovered.ensures u kept may.recovers may.devices may.sink may.recover s out.answer
+    completed_recover c.one_command.ensures laws c.refused_are_not_folded.ensures u kept may.recovers may.devices may.sink may.recover s out.answer
 
 pub returns-clause-complete_migrate : goal.returns-clause-complete_migrate
 returns-clause-complete_migrate c = λ u s kept out may.
     let laws : RecordLaws = record { one_list = c.one_list_of_records.ensures; foreign = c.no_more_records.ensures.foreign; damaged = c.no_more_records.ensures.damaged; bad = c.no_more_records.ensures.bad } in
-    completed_migrate c.one_command.ensures laws c.refused_is_not_recovered.ensures u kept may.recovers may.devices may.sink may.migrate s out.answer
+    completed_migrate c.one_command.ensures laws c.refused_are_not_folded.ensures u kept may.recovers may.devices may.sink may.migrate s out.answer
 
 pub returns-clause-complete_gen : goal.returns-clause-complete_gen
 returns-clause-complete_gen c = λ u s out may. completed_gen c.one_command.ensures u may s out.answer

@@ -13,7 +13,7 @@ returns-in-Err-clause-answer g c =
     recovery_refused (devices_of g.D.LogDev.told g.D.LogDev.faults c.args.devices.now.items) (devices_of g.D.LogDev.told g.D.LogDev.faults c.recover_kept.new.devices.items) out
     c.in-Err.no c.status_of.result c.status_of.ensures c.in-Err.ensures.refused (Keeps-refl _)
 
--- the lines found no memory: what they tell was recovered from all logs that log 0 says
+-- the lines found no memory: what they tell was folded from all logs that log 0 says
 pub returns-in_default-clause-answer : goal.returns-in_default-clause-answer
 returns-in_default-clause-answer g c =
     let before = devices_of g.D.LogDev.told g.D.LogDev.faults c.args.devices.now.items in
@@ -26,8 +26,8 @@ returns-then-is_err-clause-answer g c =
     let after = devices_of g.D.LogDev.told g.D.LogDev.faults c.recover_kept.new.devices.items in
     let out : Writing = writing_of g.O.Sink c.args.out.now c.write_all.new.out in
     let is = c.in-Ok.ensures.recovered in
-    let are : AreRecovered before after c.in-Ok.opening = record { logs = is.0; given = is.1; recovered = is.2; opened = is.3 } in
-    recover_out_fault c.in-Ok.opening are (subst (λ bytes. WritesFront out bytes) (c.as_bytes.ensures.value ∙ c.in-Ok-report_of.ensures) (search rules)) (search rules)
+    let are : AreRecovered before after c.in-Ok.folded = record { logs = is.0; given = is.1; folded = is.2; opened = is.3 } in
+    recover_out_fault c.in-Ok.folded are (subst (λ bytes. WritesFront out bytes) (c.as_bytes.ensures.value ∙ c.in-Ok-report_of.ensures) (search rules)) (search rules)
 
 pub returns-clause-answer : goal.returns-clause-answer
 returns-clause-answer g c =
@@ -35,5 +35,5 @@ returns-clause-answer g c =
     let after = devices_of g.D.LogDev.told g.D.LogDev.faults c.recover_kept.new.devices.items in
     let out : Writing = writing_of g.O.Sink c.args.out.now c.write_all.new.out in
     let is = c.in-Ok.ensures.recovered in
-    let are : AreRecovered before after c.in-Ok.opening = record { logs = is.0; given = is.1; recovered = is.2; opened = is.3 } in
-    recover_done c.in-Ok.opening are (subst (λ bytes. Writes out bytes) (c.as_bytes.ensures.value ∙ c.in-Ok-report_of.ensures) (search rules))
+    let are : AreRecovered before after c.in-Ok.folded = record { logs = is.0; given = is.1; folded = is.2; opened = is.3 } in
+    recover_done c.in-Ok.folded are (subst (λ bytes. Writes out bytes) (c.as_bytes.ensures.value ∙ c.in-Ok-report_of.ensures) (search rules))
