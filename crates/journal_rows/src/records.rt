@@ -5,7 +5,7 @@ use txn_records::{DecodeNo, decode, encode};
 
 /// A front, a byte that follows it so many times, and the offset of the first byte at which no record goes on; none
 /// where the bytes are a record.
-const ROWS: [(&'static [u8], u8, usize, Option<u32>); 21] = [
+const ROWS: [(&'static [u8], u8, usize, Option<u32>); 24] = [
     // a Genesis with one state, and what an actor completed
     (b"\x01\x02\0\x01", 0xFF, 128, None),
     (b"\x03", 0x80, 138, None),
@@ -63,6 +63,20 @@ const ROWS: [(&'static [u8], u8, usize, Option<u32>); 21] = [
         0,
         0,
         Some(38),
+    ),
+    // a checkpoint with one state, one of generation 0, and one with no state
+    (
+        b"\x10\0\0\0\0\0\0\0\x01\0\0\0\0\0\0\0\x03\0\0\0\0\0\0\0\x03\0\0\0\0\0\0\0\x01\0\0\0\0\0\0\0\x02\0\0\0\0\0\0\0\0\0\x01",
+        0x80,
+        128,
+        None,
+    ),
+    (b"\x10", 0, 8, Some(8)),
+    (
+        b"\x10\0\0\0\0\0\0\0\x01\0\0\0\0\0\0\0\x03\0\0\0\0\0\0\0\x03\0\0\0\0\0\0\0\x01\0\0\0\0\0\0\0\x02\0\0\0\0\0\0\0\0",
+        0,
+        2,
+        Some(50),
     ),
 ];
 

@@ -4,7 +4,8 @@
 //! and 1 with transaction 5), `C4:1:9` (actor 1 completes it with first field 9), `D4:80` (its commit: transaction 5 had the
 //! result 80), `K4` (a commit that tells no results), `P7:1:9` (undeclared transaction 7 leaves actor 1 with first field 9),
 //! `E7:4:2:80:0.1` (its commit, behind batch 4, with number 2 and result 80, on actors 0 and 1), `A7:4:2:0.1` (one that tells no
-//! result), or `x` with the bytes of an item.
+//! result), `H3:9:5:2:4:1:7.8_9` (the checkpoint of generation 3 with the next numbers 9, 5 and 2, for 4 batches, an undeclared
+//! transaction and the states that they left), or `x` with the bytes of an item.
 
 use snap_base::Memory;
 use std::alloc::Global;
@@ -68,7 +69,7 @@ const STATES: Kind = Kind {
 };
 
 /// The letter of a kind of record, its tag, and how its parts are written.
-const RECORDS: [(&str, u8, &[Kind]); 8] = [
+const RECORDS: [(&str, u8, &[Kind]); 9] = [
     ("G", 1, &[BYTE, STATES]),
     ("I", 2, &[LONG, SHORTS, LONGS]),
     ("C", 3, &[LONG, SHORT, STATE]),
@@ -77,6 +78,7 @@ const RECORDS: [(&str, u8, &[Kind]); 8] = [
     ("A", 6, &[LONG, LONG, LONG, SHORTS]),
     ("D", 7, &[LONG, LONGS]),
     ("E", 8, &[LONG, LONG, LONG, LONG, SHORTS]),
+    ("H", 16, &[LONG, LONG, LONG, LONG, LONG, LONG, STATES]),
 ];
 
 /// The bytes that a row's word for a log spells.

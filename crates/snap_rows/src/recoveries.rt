@@ -170,6 +170,38 @@ recover||G1:1;I1:0:1,C1:0:5;K1;D1:5
 tells Done|actor 0 5/kept 1.0.1 5/recovered batches 1 acts 0 next 2 2 1/|1 0 0 0|
 leaves |
 
+recover||G1:100,H1:3:3:1:2:0:105
+tells Done|actor 0 105/recovered batches 2 acts 0 next 3 3 1/|1 0 0 0|
+leaves |
+
+recover||G1:100;H2:9:5:4:3:2:105;I5:0:9,C5:0:108;D5:108;P10:0:107;E10:5:4:107:0
+tells Done|actor 0 107/kept 5.0.9 108/kept 5.1.4 107/recovered batches 4 acts 3 next 11 6 5/|1 0 0 0|
+leaves |
+
+recover||G2:1.2,H1:9:5:4:3:2:5.7|D5:9
+tells Logs { log: 1, offset: 0, cause: Missing { key: Info(Bid(5)) } }||1 1 0 0|
+leaves |
+
+recover||G2:1.2,H1:9:5:4:3:2:5.7
+tells Done|actor 0 5/actor 1 7/recovered batches 3 acts 2 next 9 5 4/|1 2 0 0|
+leaves |=SNAPLOG2\0
+
+recover||G1:100;I1:0:1,C1:0:105;D1:105;H1:2:2:1:1:0:105
+tells Logs { log: 0, offset: 0, cause: Stray }||1 0 0 0|
+leaves |
+
+recover||G1:100;H1:2:2:1:1:0:105.7
+tells Logs { log: 0, offset: 0, cause: Stray }||1 0 0 0|
+leaves |
+
+recover||G2:1.2|H1:2:2:1:1:0:1.2
+tells Logs { log: 1, offset: 0, cause: Stray }||1 1 0 0|
+leaves |
+
+recover||G1:100;H1:2:2:1:4611686018427387905:0:105
+tells Logs { log: 0, offset: 0, cause: Range { key: Checkpoint } }||1 0 0 0|
+leaves |
+
 recover||old G1:100
 tells Done|actor 0 100/recovered batches 0 acts 0 next 1 1 1/|1 0 0 0|
 leaves |
