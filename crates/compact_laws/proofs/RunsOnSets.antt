@@ -9,7 +9,9 @@ use Rattle.txn_records.specs.declared.records.Record.{Record}
 use Rattle.txn_records.specs.declared.records.Record.TheVariants as records
 use Rattle.log_set.specs.Told.{all_told}
 use Rattle.recovery_laws.specs.Grown.{grown, grown_from}
-use Rattle.log_compact.specs.Sets.{IsHead, generation_of, IsSet, logs_from, number_of}
+use Rattle.log_compact.specs.Finding.{HasNoSet}
+use Rattle.log_compact.specs.Sets.{IsHead, generation_of, logs_from, number_of}
+use Rattle.compact_laws.specs.Stays.{SetStays, UsedStays}
 use Rattle.compact_laws.specs.Steps.{with_run}
 use Rattle.compact_laws.proofs.ListsGrown.{told_plain}
 
@@ -51,7 +53,7 @@ old_head (e ∷ es) rs d many states h = (record { low = h.low; rest = es; begin
     first : e ≡ records.Genesis many states
     first = cc h.begins
 
-pub set_stays : (devices : ℕ → List Record) (head many generation : ℕ) (logs : ℕ → List LogRecord) → 1 ≤ many → IsSet devices head many generation → IsSet (with_run devices head many logs) head many generation
+pub set_stays : SetStays
 set_stays devices head many generation logs some s =
     let h = on_it devices head many head logs (omega arith) (omega (arith, some)) in
     let rs = all_told (logs (head - head)) in
@@ -65,6 +67,16 @@ set_stays devices head many generation logs some s =
             subst (λ z. (z < generation) ⊎ ((z ≡ generation) × (head ≤ d))) (sym (ap generation_of e ∙ o.1)) (s.greatest d m states o.0)
       ];
     }
+
+none_stays : (devices : ℕ → List Record) (head many : ℕ) (logs : ℕ → List LogRecord) → HasNoSet devices → HasNoSet (with_run devices head many logs)
+none_stays devices head many logs none = λ d m states k. elim (either devices head many d logs) [
+  | inl e ↦ none d m states (subst (λ z. IsHead d z m states) e k)
+  | inr e ↦ none d m states (old_head (devices d) (logs (d - head)) d m states (subst (λ z. IsHead d z m states) e k)).0
+]
+
+pub used_stays : SetStays → UsedStays
+used_stays stays devices many head count generation logs some (inl s) = inl (stays devices head count generation logs some s)
+used_stays stays devices many head count generation logs some (inr n) = inr (none_stays devices head count logs n.0, n.1, n.2, n.3)
 
 -- ---- the lists
 

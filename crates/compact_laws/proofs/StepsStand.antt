@@ -1,5 +1,5 @@
 -- Behind each step there is a set that folds.
-use Rattle.std.proofs.Common.{zero, suc, ◌≡◌, ℕ, ◌+◌, List, [], ◌∷◌, length, map, refl, sym, ap, subst, ◌∙◌, arith}
+use Rattle.std.proofs.Common.{zero, suc, ◌≡◌, ℕ, ◌+◌, inl, inr, List, [], ◌∷◌, length, map, refl, sym, ap, subst, ◌∙◌, arith}
 use Rattle.std.specs.List.{range_with_len}
 use Rattle.protocol.specs.History.{history}
 use Rattle.protocol.specs.Runs.{reached}
@@ -10,7 +10,8 @@ use Rattle.recovery_laws.specs.Grown.{BeginsWith}
 use Rattle.recovery_laws.specs.Joined.{AtEveryMomentFrom, RecoversFrom}
 use Rattle.snap_recover.specs.declared.openings.Opening.{Opening}
 use Rattle.log_compact.specs.declared.folds.Folded.{Folded}
-use Rattle.log_compact.specs.Sets.{IsFolded, IsSameFold, logs_from, plain_lists, OneSet, OneFold}
+use Rattle.log_compact.specs.Finding.{IsUsed, OneUse}
+use Rattle.log_compact.specs.Sets.{IsFolded, IsSameFold, logs_from, plain_lists, IsSet, OneFold}
 use Rattle.log_compact.specs.Compacting.{other_side, IsBefore, ClearingKeeps, CompactingKeeps}
 use Rattle.compact_laws.specs.Steps.{with_run, BeginsOn, fold_after, left_by, fold_left, Step, Run, Clear, Compact, GoOn, SetHolds, StepsStand}
 use Rattle.compact_laws.proofs.ListsGrown.{begins_from, grown_folds, lists_long}
@@ -59,16 +60,21 @@ run_holds {C} crash recovers devices head many f x s v b = ((crash x.fixed x.fin
 -- ---- step by step
 
 clear_holds : ClearingKeeps → (devices now : ℕ → List Record) (head many : ℕ) (f : Folded) → SetHolds devices head many f → IsBefore devices now (other_side head many) many → SetHolds now head many f
-clear_holds clears devices now head many f s b = let k = clears devices now head many f.generation s.some s.set b in record { some = s.some; set = k.0; folded = subst (λ z. IsFolded z f) (sym k.1) s.folded }
+clear_holds clears devices now head many f s b = let k = clears devices now (many + 1) head many f.generation s.some (inl s.set) b in record { some = s.some; set = still k.0; folded = subst (λ z. IsFolded z f) (sym k.1) s.folded }
+  where
+    -- where there is a set as many logs are in use as it has
+    still : IsUsed now (many + 1) head many f.generation → IsSet now head many f.generation
+    still (inl set) = set
+    still (inr none) = absurd (omega (arith, none.2))
 
-pub steps : {C : Type 0} → AtEveryMoment (CrashHolds {C = C}) → AtEveryMomentFrom (RecoversFrom {C = C}) → ClearingKeeps → CompactingKeeps → OneSet → OneFold → (devices : ℕ → List Record) (head many : ℕ) (f : Folded) (xs : List (Step C)) → SetHolds devices head many f → GoOn devices head many f xs → StepsStand devices head many f xs
-steps crash recovers clears keeps set fold devices head many f [] s g = s
-steps crash recovers clears keeps set fold devices head many f (Run x ∷ xs) s g =
+pub steps : {C : Type 0} → AtEveryMoment (CrashHolds {C = C}) → AtEveryMomentFrom (RecoversFrom {C = C}) → ClearingKeeps → CompactingKeeps → OneUse → OneFold → (devices : ℕ → List Record) (head many : ℕ) (f : Folded) (xs : List (Step C)) → SetHolds devices head many f → GoOn devices head many f xs → StepsStand devices head many f xs
+steps crash recovers clears keeps use_of fold devices head many f [] s g = s
+steps crash recovers clears keeps use_of fold devices head many f (Run x ∷ xs) s g =
     let r = run_holds crash recovers devices head many f x s g.0.0 g.0.1 in
-    ((s, r.0.0, r.0.1), steps crash recovers clears keeps set fold (left_by devices head many x) head many (fold_left f x) xs r.1 g.1)
-steps crash recovers clears keeps set fold devices head many f (Clear now ∷ xs) s g = (s, steps crash recovers clears keeps set fold now head many f xs (clear_holds clears devices now head many f s g.0.1) g.1)
-steps crash recovers clears keeps set fold devices head many f (Compact now next h ∷ xs) s g =
+    ((s, r.0.0, r.0.1), steps crash recovers clears keeps use_of fold (left_by devices head many x) head many (fold_left f x) xs r.1 g.1)
+steps crash recovers clears keeps use_of fold devices head many f (Clear now ∷ xs) s g = (s, steps crash recovers clears keeps use_of fold now head many f xs (clear_holds clears devices now head many f s g.0.1) g.1)
+steps crash recovers clears keeps use_of fold devices head many f (Compact now next h ∷ xs) s g =
     let k = keeps devices now head many f g.0.0 g.0.1 in
-    let i = set now k.head next many many k.fold.generation h.generation k.set g.0.2 in
+    let i = use_of now 1 k.head many k.fold.generation next many h.generation k.used (inl g.0.2) in
     let same = same_fold k.fold h (fold (logs_from now next many) k.fold h (subst (λ z. IsFolded (logs_from now z many) k.fold) i.0 k.folded) g.0.3) in
-    ((s, then f k.fold h k.same same), steps crash recovers clears keeps set fold now next many h xs (record { some = s.some; set = g.0.2; folded = g.0.3 }) g.1)
+    ((s, then f k.fold h k.same same), steps crash recovers clears keeps use_of fold now next many h xs (record { some = s.some; set = g.0.2; folded = g.0.3 }) g.1)

@@ -4,9 +4,10 @@ ghost use Rattle.std.specs.Prelude.{ℕ, List};
 ghost use Rattle.txn_records.specs.declared.records.Record.{Record};
 ghost use Rattle.log_compact.specs.declared.folds.Folded.{Folded};
 ghost use Rattle.compact_laws.specs.Members.{AtEveryMomentOnFolds, FoldsToMembers};
+ghost use Rattle.compact_laws.specs.Stays.{SetStays, UsedStays};
 ghost use Rattle.compact_laws.specs.Steps.{GoOn, SetHolds, Step, StepsStand};
 
-use log_compact::{clearing_keeps, compacting_keeps, one_fold, one_set, refused_are_not_folded};
+use log_compact::{clearing_keeps, compacting_keeps, one_fold, one_use, refused_are_not_folded};
 use protocol_records::recovered_transactions_are_in_order;
 use recovery_laws::logs_recover_from_greater_numbers;
 
@@ -19,7 +20,7 @@ pub fn sets_recover_behind_each_step<C>()
     logs_recover_from_greater_numbers::<C>();
     clearing_keeps();
     compacting_keeps();
-    one_set();
+    one_use();
     one_fold();
 }
 
@@ -32,4 +33,16 @@ pub fn logs_fold_to_the_members<C>()
 {
     logs_recover_from_greater_numbers::<C>();
     refused_are_not_folded();
+}
+
+/// What a run writes to the logs of a set leaves the set: the same head, as many logs, and the same generation.
+pub fn set_stays()
+    ensures { SetStays }
+{}
+
+/// What a run writes to the logs in use leaves these in use, also where there is no set.
+pub fn used_stays()
+    ensures { UsedStays }
+{
+    set_stays();
 }

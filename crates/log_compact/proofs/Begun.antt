@@ -14,49 +14,9 @@ use Rattle.log_compact.specs.Folds.{FoldsAreOfRecords, FoldsAreBegun, PlainLists
 use Rattle.log_compact.specs.Points.{Point, point_told, IsPlain}
 use Rattle.log_compact.specs.Sets.{states_at, HasNoStray, IsFirstList, IsPointInRange, OfPoint, plain_lists, number_of, IsFolded}
 use Rattle.log_compact.proofs.FoldShapes.{Shape, shape}
-use Rattle.log_compact.proofs.Moments.{Begun, zip_length}
+use Rattle.log_compact.proofs.Moments.{Begun}
+use Rattle.log_compact.proofs.OneGenesis.{one_of, first_is, as_many_in}
 use Rattle.log_compact.proofs.PlainFolds.{no_point, no_points, same_lists}
-
--- ---- the one Genesis
-
--- that of the lists, where the plain lists have this one
-record IsOne (lists : List (List Record)) (plain : List State) : Type 0 where
-  first : List State
-  one : geneses lists ≡ Genesis (length lists) first ∷ []
-  as_many : length first ≡ length plain
-
-not_genesis : (x : Record) (p : Point) (rs : List Record) → point_told x ≡ Some p → filter is_genesis (x ∷ rs) ≡ filter is_genesis rs
-not_genesis (Checkpoint generation next_tid next_bid next_c batches acts states) p rs e = refl
-not_genesis x p rs e = absurd (cc e)
-
--- of a list that begins with Genesis no more is one
-one_told : (count n : ℕ) (first states plain : List State) (x : Record) (p : Point) (rest : List Record) → point_told x ≡ Some p → Genesis count states ∷ filter is_genesis rest ≡ Genesis n plain ∷ []
-    → (filter is_genesis (Genesis count first ∷ x ∷ rest) ≡ Genesis n first ∷ []) × (states ≡ plain)
-one_told count n first states plain x p rest e g =
-    let i : count ≡ n = cc g in
-    let none : filter is_genesis rest ≡ [] = cc g in
-    let same : states ≡ plain = cc g in
-    (ap (λ z. Genesis count first ∷ z) (not_genesis x p rest e ∙ none) ∙ ap (λ k. Genesis k first ∷ []) i, same)
-
-one_by : (lists : List (List Record)) (plain : List State) → geneses (plain_lists lists) ≡ Genesis (length (plain_lists lists)) plain ∷ [] → Shape lists → IsOne lists plain
-one_by lists plain g (inl none) = record { first = plain; one = subst (λ z. geneses z ≡ Genesis (length z) plain ∷ []) (same_lists lists none) g; as_many = refl }
-one_by lists plain g (inr (p, h)) =
-    let at : geneses ((Genesis h.count p.states ∷ h.rest) ∷ h.others) ≡ Genesis (length h.others + 1) plain ∷ [] =
-    subst (λ z. geneses z ≡ Genesis (length z) plain ∷ []) h.plain g ∙ ap (λ k. Genesis k plain ∷ []) (omega arith) in
-    let t = one_told h.count (length h.others + 1) h.first p.states plain h.told p (h.rest ++ all_of h.others) h.tells at in
-    record {
-      first = h.first;
-      one =
-          ap geneses h.is
-          ∙ (t.0 ∙ ap (λ k. Genesis k h.first ∷ []) (omega (arith, ap (λ z. length z) h.is)));
-      as_many = h.as_many ∙ ap (λ z. length z) t.1;
-    }
-
-one_of : (lists : List (List Record)) (f : Folded) (x : IsFolded lists f) → IsOne lists x.recovered.begun.0
-one_of lists f x = one_by lists x.recovered.begun.0 x.recovered.begun.1.one (shape lists x.no_stray)
-
-first_is : (lists : List (List Record)) (f : Folded) (x : IsFolded lists f) → f.first ≡ (one_of lists f x).first
-first_is lists f x = x.first ∙ ap states_at (one_of lists f x).one
 
 pub folds_are_begun : FoldsAreBegun
 folds_are_begun lists f x = record {
@@ -106,12 +66,11 @@ folds_are_of_records stand lists f h x =
     let one = one_of lists f x in
     let first = first_is lists f x in
     let genesis : AllByRecursion IsRecord (Genesis (length lists) one.first ∷ []) = subst (AllByRecursion IsRecord) one.one (all_kept (all_of lists) (all_flat lists h)) in
-    let zip = zip_length (plain_lists lists) 0 x.recovered.begun.0 x.found.states x.recovered.begun.2 in
     record {
       states = subst (AllByRecursion IsState) (sym x.states) (stand.states (plain_lists lists) x.found plain x.recovered);
       first = subst (AllByRecursion IsState) (sym first) genesis.0.each;
       few = subst (λ z. length z ≤ MOST_LISTED) (sym x.states) (stand.few (plain_lists lists) x.found plain x.recovered);
-      as_many = ap (λ z. length z) first ∙ (one.as_many ∙ (zip ∙ ap (λ z. length z) (sym x.states)));
+      as_many = as_many_in lists f x;
     }
 
 -- ---- lists without a checkpoint

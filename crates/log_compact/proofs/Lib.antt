@@ -1,6 +1,9 @@
 pub mod Moments
-mod OnDevices
+pub mod OnDevices
 mod OneSet
+mod OneGenesis
+mod OneFront
+mod UsedLogs
 mod PlainFolds
 mod FoldShapes
 mod FoldRefusals

@@ -1,5 +1,5 @@
 -- The set at each moment of compacting, and its fold.
-use Rattle.std.proofs.Common.{◌≡◌, ℕ, zero, suc, ◌+◌, ◌<◌, ◌≤◌, ◌⊎◌, inl, inr, Bool, true, false, List, [], ◌∷◌, length, map, refl, sym, ap, subst, ◌∙◌, arith, Option, Some, None}
+use Rattle.std.proofs.Common.{◌≡◌, ℕ, zero, suc, ◌+◌, ◌<◌, ◌≤◌, ◌⊎◌, inl, inr, Bool, true, false, List, [], ◌∷◌, length, map, refl, sym, ap, subst, ◌∙◌, arith}
 use Rattle.std.specs.Prelude.{◌==◌, if◌then◌else◌}
 use Rattle.std.specs.List.{AllByRecursion, range_with_len}
 use Rattle.std.proofs.lemmas.Bool.{cases_Bool, eqb-true, eqb-false}
@@ -7,11 +7,11 @@ use Rattle.snap_base.specs.declared.transactions.State.{State}
 use Rattle.txn_records.specs.declared.records.Record.{Record}
 use Rattle.txn_records.specs.declared.records.Record.TheVariants.{Genesis, Checkpoint}
 use Rattle.snap_recover.specs.Opening.{IsRecovered}
-use Rattle.snap_recover.specs.Logs.{geneses}
 use Rattle.log_compact.specs.declared.folds.Folded.{Folded}
-use Rattle.log_compact.specs.Points.{Point, point_told, plains}
-use Rattle.log_compact.specs.Sets.{IsHead, generation_of, IsSet, logs_from, first_of, IsFirstList, HasNoStray, without_point, plain_lists, IsFolded}
+use Rattle.log_compact.specs.Finding.{HasNoSet, IsUsed}
+use Rattle.log_compact.specs.Sets.{IsHead, generation_of, IsSet, logs_from, IsFolded}
 use Rattle.log_compact.specs.Compacting.{other_side, IsOnSide, group_for, IsBefore, IsBehind, MayCompact, FoldsTheSame, ClearingKeeps, CompactingKeeps, CompactingEnds}
+use Rattle.log_compact.proofs.OneGenesis.{as_many_in}
 
 -- ---- the two sides
 
@@ -41,7 +41,7 @@ no_head : (d many : ℕ) (log : List Record) (states : List State) → log ≡ [
 no_head d many log states e h = cc (sym e ∙ h.begins)
 
 -- what holds what it held or nothing is no new head
-kept_head : (devices now : ℕ → List Record) (d many : ℕ) (states : List State) → (now d ≡ devices d) ⊎ (now d ≡ []) → IsHead d (now d) many states → (now d ≡ devices d)
+pub kept_head : (devices now : ℕ → List Record) (d many : ℕ) (states : List State) → (now d ≡ devices d) ⊎ (now d ≡ []) → IsHead d (now d) many states → (now d ≡ devices d)
 kept_head devices now d many states (inl e) h = e
 kept_head devices now d many states (inr e) h = absurd (no_head d many (now d) states e h)
 
@@ -53,11 +53,28 @@ on_side from logs d = elim (Rattle.std.proofs.lemmas.Bool.cases_lt d from) [
 
 -- ---- before the group is there
 
-own : (devices now : ℕ → List Record) (head logs generation : ℕ) → 1 ≤ logs → IsSet devices head logs generation → IsBefore devices now (other_side head logs) logs → (d : ℕ) → IsOnSide head logs d → now d ≡ devices d
-own devices now head logs generation some s b d on = b.same d (side_of head logs s.is_head.side some d on)
+-- the logs in use are those of one side
+pub side_used : (devices : ℕ → List Record) (many head logs generation : ℕ) → IsUsed devices many head logs generation → (head ≡ 0) ⊎ (logs ≡ head)
+side_used devices many head logs generation (inl s) = s.is_head.side
+side_used devices many head logs generation (inr n) = inl n.1
 
-lists_before : (devices now : ℕ → List Record) (head logs generation : ℕ) → 1 ≤ logs → IsSet devices head logs generation → IsBefore devices now (other_side head logs) logs → logs_from now head logs ≡ logs_from devices head logs
-lists_before devices now head logs generation some s b = same_lists devices now head logs (own devices now head logs generation some s b)
+own : (devices now : ℕ → List Record) (head logs : ℕ) → 1 ≤ logs → (head ≡ 0) ⊎ (logs ≡ head) → IsBefore devices now (other_side head logs) logs → (d : ℕ) → IsOnSide head logs d → now d ≡ devices d
+own devices now head logs some side b d on = b.same d (side_of head logs side some d on)
+
+lists_before : (devices now : ℕ → List Record) (many head logs generation : ℕ) → 1 ≤ logs → IsUsed devices many head logs generation → IsBefore devices now (other_side head logs) logs → logs_from now head logs ≡ logs_from devices head logs
+lists_before devices now many head logs generation some u b = same_lists devices now head logs (own devices now head logs some (side_used devices many head logs generation u) b)
+
+-- each device holds what it held, or none
+old_or_none : (devices now : ℕ → List Record) (other logs : ℕ) → IsBefore devices now other logs → (d : ℕ) → (now d ≡ devices d) ⊎ (now d ≡ [])
+old_or_none devices now other logs b d = by (on_side other logs d)
+  where
+    by : IsOnSide other logs d ⊎ ¬ IsOnSide other logs d → (now d ≡ devices d) ⊎ (now d ≡ [])
+    by (inl on) = b.cleared d on
+    by (inr off) = inl (b.same d off)
+
+-- then no head is there that was not there
+none_stays : (devices now : ℕ → List Record) → HasNoSet devices → ((d : ℕ) → (now d ≡ devices d) ⊎ (now d ≡ [])) → HasNoSet now
+none_stays devices now none each = λ d many states h. none d many states (subst (λ z. IsHead d z many states) (kept_head devices now d many states (each d) h) h)
 
 set_before : (devices now : ℕ → List Record) (head logs generation : ℕ) → 1 ≤ logs → IsSet devices head logs generation → IsBefore devices now (other_side head logs) logs → IsSet now head logs generation
 set_before devices now head logs generation some s b = record {
@@ -65,24 +82,25 @@ set_before devices now head logs generation some s b = record {
   is_head = subst (λ z. IsHead head z logs s.first) (sym here) s.is_head;
   its = s.its ∙ ap generation_of (sym here);
   greatest = λ d many states h.
-      let e : now d ≡ devices d = kept_head devices now d many states (either d (on_side (other_side head logs) logs d)) h in
+      let e : now d ≡ devices d = kept_head devices now d many states (old_or_none devices now (other_side head logs) logs b d) h in
       subst (λ z. (generation_of z < generation) ⊎ ((generation_of z ≡ generation) × (head ≤ d))) (sym e) (s.greatest d many states (subst (λ z. IsHead d z many states) e h));
 }
   where
     here : now head ≡ devices head
-    here = own devices now head logs generation some s b head (record { behind = omega arith; before = omega (arith, some) })
+    here = own devices now head logs some s.is_head.side b head (record { behind = omega arith; before = omega (arith, some) })
 
-    either : (d : ℕ) → IsOnSide (other_side head logs) logs d ⊎ ¬ IsOnSide (other_side head logs) logs d → (now d ≡ devices d) ⊎ (now d ≡ [])
-    either d (inl on) = b.cleared d on
-    either d (inr off) = inl (b.same d off)
+used_before : (devices now : ℕ → List Record) (many head logs generation : ℕ) → 1 ≤ logs → IsUsed devices many head logs generation → IsBefore devices now (other_side head logs) logs → IsUsed now many head logs generation
+used_before devices now many head logs generation some (inl s) b = inl (set_before devices now head logs generation some s b)
+used_before devices now many head logs generation some (inr n) b = inr (none_stays devices now n.0 (old_or_none devices now (other_side head logs) logs b), n.1, n.2, n.3)
 
-before : (devices now : ℕ → List Record) (head logs : ℕ) (f : Folded) → MayCompact devices head logs f → IsBefore devices now (other_side head logs) logs → FoldsTheSame now logs f
+before : (devices now : ℕ → List Record) (head logs : ℕ) (f : Folded) → MayCompact devices head logs f → IsBefore devices now (other_side head logs) logs → FoldsTheSame devices now head logs f
 before devices now head logs f m b = record {
   head = head;
   fold = f;
-  set = set_before devices now head logs f.generation m.some m.set b;
-  folded = subst (λ ls. IsFolded ls f) (sym (lists_before devices now head logs f.generation m.some m.set b)) m.folded;
+  used = used_before devices now 1 head logs f.generation m.some m.used b;
+  folded = subst (λ ls. IsFolded ls f) (sym (lists_before devices now 1 head logs f.generation m.some m.used b)) m.folded;
   same = record { states = refl; next_tid = refl; next_bid = refl; next_c = refl; batches = refl; acts = refl; first = refl };
+  which = inl (refl, lists_before devices now 1 head logs f.generation m.some m.used b, refl);
 }
 
 -- ---- once it is there
@@ -106,10 +124,14 @@ behind_set devices now head logs f m b = record {
     either d off (inl on) = b.cleared d on
     either d off (inr away) = inl (b.same d off away)
 
+    before_it : (d many : ℕ) (states : List State) → IsHead d (devices d) many states → IsUsed devices 1 head logs f.generation → generation_of (devices d) < f.generation + 1
+    before_it d many states h (inl s) = elim (s.greatest d many states h) [ inl l ↦ omega (arith, l) | inr q ↦ omega (arith, q.0) ]
+    before_it d many states h (inr n) = absurd (n.0 d many states h)
+
     older : (d many : ℕ) (states : List State) → IsHead d (now d) many states → ¬ IsOnSide (other_side head logs) logs d → generation_of (now d) < f.generation + 1
     older d many states h off =
         let e : now d ≡ devices d = kept_head devices now d many states (either d off (on_side head logs d)) h in
-        subst (λ z. generation_of z < f.generation + 1) (sym e) (elim (m.set.greatest d many states (subst (λ z. IsHead d z many states) e h)) [ inl l ↦ omega (arith, l) | inr q ↦ omega (arith, q.0) ])
+        subst (λ z. generation_of z < f.generation + 1) (sym e) (before_it d many states (subst (λ z. IsHead d z many states) e h) m.used)
 
 -- the fold of Genesis with a checkpoint, and logs that hold nothing
 abbrev pub Begun : Type 0
@@ -168,48 +190,25 @@ folded_two begun f i m = record {
   since = refl;
 }
 
-pub zip_length : (logs : List (List Record)) (n : ℕ) (first states : List State) → Rattle.std.specs.List.AllZip (λ (x : ℕ × State) s. Rattle.snap_recover.specs.Opening.IsStateOf logs x.0 x.1 s) (Rattle.std.specs.List.enumerate_from n first) states → length first ≡ length states
-zip_length logs n [] [] h = refl
-zip_length logs n [] (y ∷ ys) h = elim h [ ]
-zip_length logs n (x ∷ xs) [] h = elim h [ ]
-zip_length logs n (x ∷ xs) (y ∷ ys) h = ap (λ k. suc k) (zip_length logs (n + 1) xs ys h.1)
-
--- Genesis of the plain lists has as many states as the one that stands in the log
-as_many_told : (p : Option Point) (count : ℕ) (first : List State) (x : Record) (rest : List Record) (lists : List (List Record)) (n : ℕ) (states : List State) → IsFirstList (Genesis count first ∷ x ∷ rest) p → geneses (without_point (Genesis count first ∷ x ∷ rest) p ∷ map plains lists) ≡ Genesis n states ∷ []
-    → length first ≡ length states
-as_many_told None count first x rest lists n states h g = let i : first ≡ states = cc g in ap (λ z. length z) i
-as_many_told (Some p) count first x rest lists n states h g = let i : p.states ≡ states = cc g in h.0 ∙ ap (λ z. length z) i
-
-as_many_at : (count : ℕ) (first : List State) (rest : List Record) (lists : List (List Record)) (n : ℕ) (states : List State) → HasNoStray ((Genesis count first ∷ rest) ∷ lists) → geneses (plain_lists ((Genesis count first ∷ rest) ∷ lists)) ≡ Genesis n states ∷ [] → length first ≡ length states
-as_many_at count first [] lists n states h g = let i : first ≡ states = cc g in ap (λ z. length z) i
-as_many_at count first (x ∷ rest) lists n states h g = as_many_told (point_told x) count first x rest lists n states h.0 g
-
-same_first : (rs : List Record) (lists : List (List Record)) (count : ℕ) (first : List State) (rest : List Record) → rs ≡ Genesis count first ∷ rest → HasNoStray (rs ∷ lists) → (n : ℕ) (states : List State) → geneses (plain_lists (rs ∷ lists)) ≡ Genesis n states ∷ []
-    → (length first ≡ length states) × (first_of (rs ∷ lists) ≡ first)
-same_first rs lists count first rest e st n states g =
-    (as_many_at count first rest lists n states (subst (λ z. HasNoStray (z ∷ lists)) e st) (subst (λ z. geneses (plain_lists (z ∷ lists)) ≡ Genesis n states ∷ []) e g), ap (λ z. first_of (z ∷ lists)) e)
-
 is_fit : (devices : ℕ → List Record) (head logs : ℕ) (f : Folded) → MayCompact devices head logs f → IsFit f
-is_fit devices head zero f m = absurd (omega (arith, m.some))
-is_fit devices head (suc logs) f m =
+is_fit devices head logs f m =
     let o = m.folded in
-    let b = o.recovered.begun in
-    let s = same_first (devices head) (map devices (range_with_len (head + 1) logs)) (suc logs) m.set.first m.set.is_head.rest m.set.is_head.begins o.no_stray (length (plain_lists (logs_from devices head (suc logs)))) b.0 b.1.one in
     record {
-      as_many = ap (λ z. length z) (o.first ∙ s.1) ∙ (s.0 ∙ (zip_length (plain_lists (logs_from devices head (suc logs))) 0 b.0 o.found.states b.2 ∙ ap (λ z. length z) (sym o.states)));
+      as_many = as_many_in (logs_from devices head logs) f o;
       next_tid = omega (arith, o.next_tid, o.recovered.next_tid);
       next_bid = omega (arith, o.next_bid, o.recovered.next_bid);
       next_c = omega (arith, o.next_c, o.recovered.next_c);
     }
 
-behind : Begun → (devices now : ℕ → List Record) (head logs : ℕ) (f : Folded) → MayCompact devices head logs f → IsBehind devices now head (other_side head logs) logs (group_for logs f) → FoldsTheSame now logs f
+behind : Begun → (devices now : ℕ → List Record) (head logs : ℕ) (f : Folded) → MayCompact devices head logs f → IsBehind devices now head (other_side head logs) logs (group_for logs f) → FoldsTheSame devices now head logs f
 unfolding fold_of
 behind begun devices now head logs f m b = record {
   head = other_side head logs;
   fold = fold_of f;
-  set = behind_set devices now head logs f m b;
+  used = inl (behind_set devices now head logs f m b);
   folded = by logs m b;
   same = record { states = refl; next_tid = refl; next_bid = refl; next_c = refl; batches = refl; acts = refl; first = refl };
+  which = inr (refl, refl, refl);
 }
   where
     by : (logs : ℕ) → MayCompact devices head logs f → IsBehind devices now head (other_side head logs) logs (group_for logs f) → IsFolded (logs_from now (other_side head logs) logs) (fold_of f)
@@ -228,4 +227,4 @@ pub compacting_ends : CompactingEnds
 compacting_ends = behind_set
 
 pub clearing_keeps : ClearingKeeps
-clearing_keeps devices now head logs generation some s b = (set_before devices now head logs generation some s b, lists_before devices now head logs generation some s b)
+clearing_keeps devices now many head logs generation some u b = (used_before devices now many head logs generation some u b, lists_before devices now many head logs generation some u b)

@@ -13,8 +13,8 @@ use Rattle.txn_records.specs.declared.records.Record.{Record}
 use Rattle.record_log.specs.Growth.{MayAppendGroup}
 use Rattle.record_log.specs.Records.{spelled, HoldsRecords}
 use Rattle.log_compact.specs.Compacting.{other_side, IsOnSide, group_for, CompactingKeeps}
-use Rattle.log_compact.specs.OnDevices.{Held, IsFront, cleared_ops, ready_ops, group_ops, IsMadeReady, AreImages, records_on, HoldMoment, ImagesHoldMoments, CrashedCompactionFolds}
-use Rattle.log_compact.proofs.Moments.{side_of, on_side, other_on}
+use Rattle.log_compact.specs.OnDevices.{Held, OpenDevice, open_on, IsFront, cleared_ops, ready_ops, group_ops, IsMadeReady, AreImages, records_on, HoldMoment, ImagesHoldMoments, CrashedCompactionFolds}
+use Rattle.log_compact.proofs.Moments.{side_of, side_used, on_side, other_on}
 
 -- what the levels below promise of one log
 pub record LogsStand : Type 0 where
@@ -29,19 +29,22 @@ pub record LogsStand : Type 0 where
 
 -- ---- one device
 
+abbrev open_of : Held → OpenDevice
+open_of x = record { history = x.history; end = x.end }
+
 -- what holds at each moment of some operations holds behind each front of them
-at_front : (d : Disk) (made ops : List DevOp) (P : List ℕ → Type 0) (image : List ℕ) → EachMoment d ops P → IsFront made ops → IsImage (disk_after made d) image → P image
+pub at_front : (d : Disk) (made ops : List DevOp) (P : List ℕ → Type 0) (image : List ℕ) → EachMoment d ops P → IsFront made ops → IsImage (disk_after made d) image → P image
 at_front d made ops P image each front left = moment_between d made front.0 P (subst (λ z. EachMoment d z P) front.1 each) image left
 
 -- the disk of a history that has some operations more
-disk_with : (h : DeviceHistory) (ops : List DevOp) → disk (with_ops h ops) ≡ disk_after ops (disk h)
+pub disk_with : (h : DeviceHistory) (ops : List DevOp) → disk (with_ops h ops) ≡ disk_after ops (disk h)
 disk_with h ops = disk_join h.ops ops (settled h.first)
 
-with_both : (h : DeviceHistory) (xs ys : List DevOp) → with_ops (with_ops h xs) ys ≡ with_ops h (xs ++ ys)
+pub with_both : (h : DeviceHistory) (xs ys : List DevOp) → with_ops (with_ops h xs) ys ≡ with_ops h (xs ++ ys)
 with_both h xs ys = ap (λ z. record { first = h.first; ops = z }) (append_assoc h.ops xs ys)
 
 -- a device on which nothing is loose is left its log
-quiet_image : LogsStand → (h : DeviceHistory) (end : ℕ) (items : List (List ℕ)) → DeviceLog h end items → (image : List ℕ) → IsImage (disk h) image → IsLog image items
+pub quiet_image : LogsStand → (h : DeviceHistory) (end : ℕ) (items : List (List ℕ)) → DeviceLog h end items → (image : List ℕ) → IsImage (disk h) image → IsLog image items
 quiet_image laws h end items log image left = subst (λ z. IsLog z items) (sym (laws.settles (content h) image (subst (λ d. IsImage d image) log.quiet left))) (laws.lists (content h) end items log.log)
 
 -- behind these operations it is a log of these items
@@ -57,7 +60,7 @@ old_or_none x image (inl l) = inl (record { log = l; each = x.holds.each })
 old_or_none x image (inr l) = inr (record { log = l; each = tt })
 
 -- it is being cleared
-clearing : LogsStand → (x : Held) (made : List DevOp) (image : List ℕ) → IsFront made (cleared_ops x) → IsImage (disk_after made (disk x.history)) image → HoldsRecords image x.records ⊎ HoldsRecords image []
+clearing : LogsStand → (x : Held) (made : List DevOp) (image : List ℕ) → IsFront made (cleared_ops (open_of x)) → IsImage (disk_after made (disk x.history)) image → HoldsRecords image x.records ⊎ HoldsRecords image []
 clearing laws x made image front left = old_or_none x image (at_front (disk x.history) made (clear_ops x.end) (λ z. IsLog z (spelled x.records) ⊎ IsLog z []) image (laws.clear_keeps x.history x.end (spelled x.records) x.holds.log) front left)
 
 -- a log of no item is made one of format 2
@@ -70,13 +73,13 @@ upgrading laws true h end log = laws.upgrade_keeps h end [] log
 upgrading laws false h end log = λ image left. quiet_image laws h end [] log image left
 
 -- it is being cleared, and then made one of format 2
-making_ready : LogsStand → (x : Held) (made : List DevOp) (image : List ℕ) → IsFront made (ready_ops x) → IsImage (disk_after made (disk x.history)) image → HoldsRecords image x.records ⊎ HoldsRecords image []
-making_ready laws x made image front left = old_or_none x image (at_front (disk x.history) made (ready_ops x) (λ z. IsLog z (spelled x.records) ⊎ IsLog z []) image all front left)
+making_ready : LogsStand → (x : Held) (made : List DevOp) (image : List ℕ) → IsFront made (ready_ops (open_of x)) → IsImage (disk_after made (disk x.history)) image → HoldsRecords image x.records ⊎ HoldsRecords image []
+making_ready laws x made image front left = old_or_none x image (at_front (disk x.history) made (ready_ops (open_of x)) (λ z. IsLog z (spelled x.records) ⊎ IsLog z []) image all front left)
   where
     closed : DeviceLog (with_ops x.history (clear_ops x.end)) FIRST_GATE []
     closed = laws.clears x.history x.end (spelled x.records) x.holds.log
 
-    all : EachMoment (disk x.history) (ready_ops x) (λ z. IsLog z (spelled x.records) ⊎ IsLog z [])
+    all : EachMoment (disk x.history) (ready_ops (open_of x)) (λ z. IsLog z (spelled x.records) ⊎ IsLog z [])
     all = moments_join (disk x.history) (clear_ops x.end) (upgrading_ops (content x.history)) (λ z. IsLog z (spelled x.records) ⊎ IsLog z [])
         (laws.clear_keeps x.history x.end (spelled x.records) x.holds.log)
         (subst (λ d. EachMoment d (upgrading_ops (content x.history)) (λ z. IsLog z (spelled x.records) ⊎ IsLog z [])) (disk_with x.history (clear_ops x.end))
@@ -84,32 +87,41 @@ making_ready laws x made image front left = old_or_none x image (at_front (disk 
         (upgrading laws (format_in (content x.history) == 1) (with_ops x.history (clear_ops x.end)) FIRST_GATE closed)))
 
 -- it is cleared, and of format 2
-ready : LogsStand → (x : Held) → DeviceLog (with_ops x.history (ready_ops x)) FIRST_GATE []
-ready laws x =
+pub ready_log : LogsStand → (x : OpenDevice) (items : List (List ℕ)) → DeviceLog x.history x.end items → DeviceLog (with_ops x.history (ready_ops x)) FIRST_GATE []
+ready_log laws x items log =
     subst (λ z. DeviceLog z FIRST_GATE []) (with_both x.history (clear_ops x.end) (upgrading_ops (content x.history)))
-    (upgraded laws (format_in (content x.history) == 1) (with_ops x.history (clear_ops x.end)) FIRST_GATE (laws.clears x.history x.end (spelled x.records) x.holds.log))
+    (upgraded laws (format_in (content x.history) == 1) (with_ops x.history (clear_ops x.end)) FIRST_GATE (laws.clears x.history x.end items log))
 
-made_ready : LogsStand → (x : Held) (made : List DevOp) (image : List ℕ) → made ≡ ready_ops x → IsImage (disk_after made (disk x.history)) image → HoldsRecords image []
-made_ready laws x made image e left = record { log = left_image laws x.history (ready_ops x) made FIRST_GATE [] (ready laws x) e image left; each = tt }
+ready : LogsStand → (x : Held) → DeviceLog (with_ops x.history (ready_ops (open_of x))) FIRST_GATE []
+ready laws x = ready_log laws (open_of x) (spelled x.records) x.holds.log
+
+made_ready : LogsStand → (x : Held) (made : List DevOp) (image : List ℕ) → made ≡ ready_ops (open_of x) → IsImage (disk_after made (disk x.history)) image → HoldsRecords image []
+made_ready laws x made image e left = record { log = left_image laws x.history (ready_ops (open_of x)) made FIRST_GATE [] (ready laws x) e image left; each = tt }
 
 -- the group is being appended to it
-appending : LogsStand → (x : Held) (made front : List DevOp) (group : List Record) (image : List ℕ) → MayAppendGroup FIRST_GATE group → IsFront front (group_ops group) → made ≡ ready_ops x ++ front → IsImage (disk_after made (disk x.history)) image
+appending : LogsStand → (x : Held) (made front : List DevOp) (group : List Record) (image : List ℕ) → MayAppendGroup FIRST_GATE group → IsFront front (group_ops group) → made ≡ ready_ops (open_of x) ++ front → IsImage (disk_after made (disk x.history)) image
     → HoldsRecords image [] ⊎ HoldsRecords image group
 appending laws x made front group image may some e left =
-    let h = with_ops x.history (ready_ops x) in
-    none_or_group (at_front (disk (with_ops x.history (ready_ops x))) front (group_ops group) (λ z. IsLog z [] ⊎ IsLog z (spelled group)) image
-    (laws.append_keeps (with_ops x.history (ready_ops x)) FIRST_GATE [] (spelled group) may.may (ready laws x)) some
-    (subst (λ z. IsImage z image) (ap (λ z. disk_after z (disk x.history)) e ∙ (disk_join (ready_ops x) front (disk x.history) ∙ ap (disk_after front) (sym (disk_with x.history (ready_ops x))))) left))
+    let h = with_ops x.history (ready_ops (open_of x)) in
+    none_or_group (at_front (disk (with_ops x.history (ready_ops (open_of x)))) front (group_ops group) (λ z. IsLog z [] ⊎ IsLog z (spelled group)) image
+    (laws.append_keeps (with_ops x.history (ready_ops (open_of x))) FIRST_GATE [] (spelled group) may.may (ready laws x)) some
+    (subst (λ z. IsImage z image) (ap (λ z. disk_after z (disk x.history)) e ∙ (disk_join (ready_ops (open_of x)) front (disk x.history) ∙ ap (disk_after front) (sym (disk_with x.history (ready_ops (open_of x)))))) left))
   where
     none_or_group : IsLog image [] ⊎ IsLog image (spelled group) → HoldsRecords image [] ⊎ HoldsRecords image group
     none_or_group (inl l) = inl (record { log = l; each = tt })
     none_or_group (inr l) = inr (record { log = l; each = may.records })
 
-appended : LogsStand → (x : Held) (made : List DevOp) (group : List Record) (image : List ℕ) → MayAppendGroup FIRST_GATE group → made ≡ ready_ops x ++ group_ops group → IsImage (disk_after made (disk x.history)) image → HoldsRecords image group
+-- and the group is appended
+pub group_log : LogsStand → (x : OpenDevice) (items : List (List ℕ)) (group : List Record) → MayAppendGroup FIRST_GATE group → DeviceLog x.history x.end items
+    → DeviceLog (with_ops x.history (ready_ops x ++ group_ops group)) (end_behind FIRST_GATE (spelled group)) (spelled group)
+group_log laws x items group may log =
+    subst (λ z. DeviceLog z (end_behind FIRST_GATE (spelled group)) (spelled group)) (with_both x.history (ready_ops x) (group_ops group))
+    (laws.appends (with_ops x.history (ready_ops x)) FIRST_GATE [] (spelled group) may.may (ready_log laws x items log))
+
+appended : LogsStand → (x : Held) (made : List DevOp) (group : List Record) (image : List ℕ) → MayAppendGroup FIRST_GATE group → made ≡ ready_ops (open_of x) ++ group_ops group → IsImage (disk_after made (disk x.history)) image → HoldsRecords image group
 appended laws x made group image may e left = record {
-  log = left_image laws x.history (ready_ops x ++ group_ops group) made (end_behind FIRST_GATE (spelled group)) (spelled group)
-      (subst (λ z. DeviceLog z (end_behind FIRST_GATE (spelled group)) (spelled group)) (with_both x.history (ready_ops x) (group_ops group))
-      (laws.appends (with_ops x.history (ready_ops x)) FIRST_GATE [] (spelled group) may.may (ready laws x))) e image left;
+  log = left_image laws x.history (ready_ops (open_of x) ++ group_ops group) made (end_behind FIRST_GATE (spelled group)) (spelled group)
+      (group_log laws (open_of x) (spelled x.records) group may x.holds.log) e image left;
   each = may.records;
 }
 
@@ -133,7 +145,7 @@ either_log : (image : List ℕ) (old : List Record) → HoldsRecords image old �
 either_log image old (inl l) = record { records = old; is_log = l; fits = inl refl }
 either_log image old (inr l) = record { records = []; is_log = l; fits = inr refl }
 
-hold_ready : LogsStand → (devices : ℕ → Held) (made : ℕ → List DevOp) (head other logs : ℕ) (group : List Record) (images : ℕ → List ℕ) → IsMadeReady devices made other logs → AreImages devices made images → HoldMoment devices head other logs group images
+hold_ready : LogsStand → (devices : ℕ → Held) (made : ℕ → List DevOp) (head other logs : ℕ) (group : List Record) (images : ℕ → List ℕ) → IsMadeReady (open_on devices) made other logs → AreImages devices made images → HoldMoment devices head other logs group images
 hold_ready laws devices made head other logs group images c left = record {
   now = λ d. (out d (on_side other logs d)).records;
   are_logs = λ d. (out d (on_side other logs d)).is_log;
@@ -270,5 +282,5 @@ images_hold laws devices made head other logs group images apart o may (inr (inr
 
 pub crashed_folds : CompactingKeeps → ImagesHoldMoments → CrashedCompactionFolds
 crashed_folds keeps holds devices made head logs f images m may made_is left =
-    let h = holds devices made head (other_side head logs) logs (group_for logs f) images (side_of head logs m.set.is_head.side m.some) (other_on head logs m.some) may made_is left in
+    let h = holds devices made head (other_side head logs) logs (group_for logs f) images (side_of head logs (side_used (records_on devices) 1 head logs f.generation m.used) m.some) (other_on head logs m.some) may made_is left in
     record { now = h.now; are_logs = h.are_logs; folds = keeps (records_on devices) h.now head logs f m h.moment }

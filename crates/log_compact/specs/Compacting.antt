@@ -4,6 +4,7 @@ use Rattle.txn_records.specs.declared.records.Record.{Record}
 use Rattle.txn_records.specs.declared.records.Record.TheVariants.{Genesis, Checkpoint}
 use Rattle.snap_recover.specs.declared.ranges.TheConstants.{GREATEST_NUMBER}
 use Rattle.log_compact.specs.declared.folds.Folded.{Folded}
+use Rattle.log_compact.specs.Finding.{IsUsed}
 use Rattle.log_compact.specs.Sets.{IsSet, IsFolded, IsSameFold, logs_from}
 
 -- of the two sides the one that does not begin at this device
@@ -41,9 +42,9 @@ abbrev pub IsMoment : (devices now : ℕ → List Record) (head logs : ℕ) (f :
 IsMoment devices now head logs f =
     IsBefore devices now (other_side head logs) logs ⊎ IsBehind devices now head (other_side head logs) logs (group_for logs f)
 
--- what a set of a few logs that is not refused is
+-- What a few logs in use that are not refused are: those of a set, or device 0 alone where there is none.
 pub record MayCompact (devices : ℕ → List Record) (head logs : ℕ) (f : Folded) : Type 0 where
-  pub set : IsSet devices head logs f.generation
+  pub used : IsUsed devices 1 head logs f.generation
   pub some : 1 ≤ logs
   pub few : logs ≤ 2
   pub folded : IsFolded (logs_from devices head logs) f
@@ -55,26 +56,34 @@ pub record MayCompact (devices : ℕ → List Record) (head logs : ℕ) (f : Fol
   pub batches : f.batches ≤ GREATEST_NUMBER
   pub acts : f.acts ≤ GREATEST_NUMBER
 
--- There is a set, of as many logs, and what it folds to is the same.
-pub record FoldsTheSame (now : ℕ → List Record) (logs : ℕ) (f : Folded) : Type 0 where
+-- The logs in use are the same as before, hold what they held, and so fold to the same; or they are those of the other side, one generation
+-- later, and nothing is committed since the checkpoint.
+abbrev pub AreSameOrNext : (devices now : ℕ → List Record) (was head logs : ℕ) (f g : Folded) → Type 0
+AreSameOrNext devices now was head logs f g =
+    ((head ≡ was) × (logs_from now was logs ≡ logs_from devices was logs) × (g ≡ f))
+    ⊎ ((head ≡ other_side was logs) × (g.generation ≡ f.generation + 1) × (g.opening.committed ≡ []))
+
+-- As many logs are in use as before, when the head was this device, and what they fold to is the same.
+pub record FoldsTheSame (devices now : ℕ → List Record) (was logs : ℕ) (f : Folded) : Type 0 where
   pub head : ℕ
   pub fold : Folded
-  pub set : IsSet now head logs fold.generation
+  pub used : IsUsed now 1 head logs fold.generation
   pub folded : IsFolded (logs_from now head logs) fold
   pub same : IsSameFold f fold
+  pub which : AreSameOrNext devices now was head logs f fold
 
--- Clearing the other side, or a part of it, leaves the set and its lists.
+-- Clearing the other side, or a part of it, leaves the logs in use and their lists.
 abbrev pub ClearingKeeps : Type 0
 ClearingKeeps =
-    (devices now : ℕ → List Record) (head logs generation : ℕ)
-    → 1 ≤ logs → IsSet devices head logs generation → IsBefore devices now (other_side head logs) logs
-    → IsSet now head logs generation × (logs_from now head logs ≡ logs_from devices head logs)
+    (devices now : ℕ → List Record) (many head logs generation : ℕ)
+    → 1 ≤ logs → IsUsed devices many head logs generation → IsBefore devices now (other_side head logs) logs
+    → IsUsed now many head logs generation × (logs_from now head logs ≡ logs_from devices head logs)
 
--- At every moment, whatever each device is left with, the set folds to what it folded to before.
+-- At every moment, whatever each device is left with, the logs in use fold to what they folded to before.
 abbrev pub CompactingKeeps : Type 0
 CompactingKeeps =
     (devices now : ℕ → List Record) (head logs : ℕ) (f : Folded)
-    → MayCompact devices head logs f → IsMoment devices now head logs f → FoldsTheSame now logs f
+    → MayCompact devices head logs f → IsMoment devices now head logs f → FoldsTheSame devices now head logs f
 
 -- In the end, with the group there, it is the other side's first log that is the head, one generation later.
 abbrev pub CompactingEnds : Type 0

@@ -7,3 +7,4 @@ pub mod Compacting
 pub mod OnDevices
 pub mod Refusals
 pub mod Stripping
+pub mod Sides

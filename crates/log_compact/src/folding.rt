@@ -1,5 +1,5 @@
 //! What logs fold to.
-ghost use Rattle.std.specs.Prelude.{◌≡◌, ◌≤◌, IfOk, MatchResult};
+ghost use Rattle.std.specs.Prelude.{◌≡◌, ◌≤◌, length, IfOk, MatchResult};
 ghost use Rattle.snap_recover.specs.declared.ranges.TheConstants.{GREATEST_NUMBER};
 ghost use Rattle.log_compact.specs.Refusals.{IsNotFolded};
 ghost use Rattle.log_compact.specs.Sets.{HasNoStray, IsFolded, IsPointInRange, OfPoint, point_of};
@@ -17,14 +17,14 @@ use std::mem;
 use txn_records::{Key, Record};
 
 /// What the logs in use fold to. Genesis gets the checkpoint's states, and the checkpoint is left out; what these lists recover to
-/// gets the greater next numbers, and the checkpoint's counts are added to what is committed. Where a checkpoint strays behind
-/// more logs than a byte counts, the refusal is want of memory.
+/// gets the greater next numbers, and the checkpoint's counts are added to what is committed. A refusal names a log by a byte, so
+/// there are 256 lists at most.
 pub fn fold(alloc: Global, lists: Sequence<Sequence<Record>>) -> Result<Folded, FoldNo>
+    requires few { length lists ≤ 256 }
     ensures { MatchResult result (λ f. IsFolded lists f) (λ no. IsNotFolded lists no) }
 {
     if let Some(at) = first_stray(lists.as_slice()) {
-        let log = u8::try_from(at).map_err(|_| FoldNo::Memory)?;
-        return Err(FoldNo::Stray { log });
+        return Err(FoldNo::Stray { log: at as u8 });
     }
     if !is_in_range(lists.as_slice()) {
         return Err(FoldNo::Range {

@@ -12,13 +12,13 @@ pub fn one_set()
     ensures { OneSet }
 {}
 
-/// Clearing the logs of the other side, or some of them, leaves the set, and what its logs hold.
+/// Clearing the logs of the other side, or some of them, leaves the logs in use, and what they hold.
 pub fn clearing_keeps()
     ensures { ClearingKeeps }
 {}
 
-/// At every moment of compacting, whatever a crash leaves of each device, the set folds to the same states, next numbers and
-/// counts.
+/// At every moment of compacting, whatever a crash leaves of each device, the logs in use fold to the same states, next numbers
+/// and counts.
 pub fn compacting_keeps()
     ensures { CompactingKeeps }
 {

@@ -10,6 +10,8 @@ mod founds;
 mod laws;
 mod numbers;
 mod refusals;
+mod set_laws;
+mod sides;
 mod strays;
 mod stripping;
 
@@ -26,3 +28,5 @@ pub use laws::{
     images_hold_moments, one_set,
 };
 pub use refusals::FoldNo;
+pub use set_laws::{begun_is_set, fronts_of_records, fronts_tell, one_front, one_use};
+pub use sides::clear_side;

@@ -1,5 +1,5 @@
 //! Checkpoints that stand where none may.
-ghost use Rattle.std.specs.Prelude.{IsTrue, ◌↔◌, MatchOption};
+ghost use Rattle.std.specs.Prelude.{◌<◌, IsTrue, ◌↔◌, length, IfSome, MatchOption};
 ghost use Rattle.std.specs.List.{AllByRecursion};
 ghost use Rattle.log_compact.specs.Points.{IsPlain};
 ghost use Rattle.log_compact.specs.Refusals.{IsFirstStray, IsListFit};
@@ -45,7 +45,8 @@ fn is_first_fit(records: &[Record]) -> bool
 
 /// The first list in which a checkpoint stands where none may; `None` where there is none.
 pub(crate) fn first_stray(lists: &[Sequence<Record>]) -> Option<usize>
-    ensures { MatchOption result (HasNoStray lists.now) (λ log. IsFirstStray lists.now log) }
+    ensures found { MatchOption result (HasNoStray lists.now) (λ log. IsFirstStray lists.now log) }
+    ensures within { IfSome result (λ log. log < length lists.now) }
 {
     if lists.len() == 0 {
         return None;

@@ -1,0 +1,11 @@
+use Rattle.std.proofs.Common.{◌≡◌, ◌≤◌, length, vec_len, vec_capacity}
+use Rattle.log_compact.specs.Sides.{AreDone, IsCleared}
+use Rattle.log_compact.proofs.sides.clear_side.Given as goal
+
+abbrev pub invariant-loop-log : goal.invariant-loop-log
+invariant-loop-log g l = record {
+  within : l.log ≤ length l.fn.logs.items;
+  cleared : AreDone IsCleared l.from l.log l.fn.logs.items l.logs.items;
+  len : vec_len l.logs ≡ vec_len l.fn.logs;
+  room : vec_capacity l.logs ≡ vec_capacity l.fn.logs;
+}
