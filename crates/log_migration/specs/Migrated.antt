@@ -1,39 +1,26 @@
 -- What migrating logs leaves of their devices, and why they are not migrated.
-use Rattle.std.specs.Prelude.{ℕ, ◌⊎◌, List, length, take}
-use Rattle.txn_records.specs.declared.records.Record.{Record}
-use Rattle.log_compact.specs.declared.folds.Folded.{Folded}
-use Rattle.log_compact.specs.Sets.{IsFolded}
+use Rattle.std.specs.Prelude.{ℕ, ◌⊎◌, List, length, take, drop}
 use Rattle.log_opening.specs.Devices.{Device, AreBegun, AreOpened}
-use Rattle.log_opening.specs.Kept.{AreGiven, IsLogsNo}
+use Rattle.log_opening.specs.Kept.{AreFolded, IsLogsNo}
 use Rattle.log_opening.specs.Upgrades.{AreOld, FailsBeginning}
 use Rattle.log_opening.specs.declared.refusals.LogsNo.{LogsNo}
 use Rattle.log_opening.specs.declared.refusals.LogsNo.TheVariants as ending
 
--- The logs hold these records, which recover, and so many of them were of format 1. Each is opened and is of format 2 now; the other
--- devices got no call.
+-- So many of the logs in use were of format 1. Each is opened and is of format 2 now; the other devices are only opened.
 pub record AreMigrated (before after : List Device) (count : ℕ) : Type 0 where
-  pub logs : List (List Record)
-  pub fold : Folded
-  pub given : AreGiven before logs
-  pub folded : IsFolded logs fold
-  pub begun : AreBegun (length logs) before after
-  pub old : AreOld (take (length logs) before) count
+  pub logs : AreFolded before
+  pub begun : AreBegun logs.head (length logs.lists) before after
+  pub old : AreOld (take (length logs.lists) (drop logs.head before)) count
 
--- The logs hold records that recover, and the upgrade of this log failed.
+-- The upgrade of this log failed.
 pub record FailsMigration (before after : List Device) (log : ℕ) : Type 0 where
-  pub logs : List (List Record)
-  pub fold : Folded
-  pub given : AreGiven before logs
-  pub folded : IsFolded logs fold
-  pub fails : FailsBeginning (length logs) before after log
+  pub logs : AreFolded before
+  pub fails : FailsBeginning logs.head (length logs.lists) before after log
 
--- There was no memory for what is to be told: the logs recover, and are only opened.
+-- There was no memory for what is to be told: all logs are only opened.
 pub record LacksWords (before after : List Device) : Type 0 where
-  pub logs : List (List Record)
-  pub fold : Folded
-  pub given : AreGiven before logs
-  pub folded : IsFolded logs fold
-  pub opened : AreOpened (length logs) before after
+  pub logs : AreFolded before
+  pub opened : AreOpened 4 before after
 
 -- Why logs are not migrated. Nothing is upgraded but where an upgrade failed.
 abbrev pub IsMigrateNo : List Device → List Device → LogsNo → Type 0
@@ -41,8 +28,8 @@ IsMigrateNo before after (ending.Device log) = IsLogsNo before after (ending.Dev
 IsMigrateNo before after ending.Memory = IsLogsNo before after ending.Memory ⊎ LacksWords before after
 IsMigrateNo before after (ending.Refused log offset cause) = IsLogsNo before after (ending.Refused log offset cause)
 
--- why not all of so many open logs are of format 2: there was no memory for what is to be told, or an upgrade failed
-abbrev pub IsNotTold : ℕ → List Device → List Device → LogsNo → Type 0
-IsNotTold count before after (ending.Device log) = FailsBeginning count before after log
-IsNotTold count before after ending.Memory = AreOpened count before after
-IsNotTold count before after (ending.Refused log offset cause) = ⊥
+-- why not all logs in use, so many from the head on, are of format 2: there was no memory for what is to be told, or an upgrade failed
+abbrev pub IsNotTold : ℕ → ℕ → List Device → List Device → LogsNo → Type 0
+IsNotTold head count before after (ending.Device log) = FailsBeginning head count before after log
+IsNotTold head count before after ending.Memory = AreOpened 4 before after
+IsNotTold head count before after (ending.Refused log offset cause) = ⊥

@@ -1,28 +1,29 @@
-//! Upgrading the logs of format 1 on four devices, once what they hold is folded.
-ghost use Rattle.std.specs.Prelude.{◌≡◌, ◌+◌, ◌≤◌, ◌++◌, ℕ, List, [], length, map, take, IfErr, IfOk, MatchResult, string_bytes, vec_len, vec_capacity};
-ghost use Rattle.std.specs.List.{AllZip};
+//! Upgrading the logs of format 1 on four devices, once what those in use hold is recovered.
+ghost use Rattle.std.specs.Prelude.{◌≡◌, ◌+◌, ◌≤◌, ℕ, List, [], map, take, drop, false, IfErr, IfOk, MatchResult, string_bytes, vec_len, vec_capacity};
+ghost use Rattle.std.specs.List.{AllByRecursion, AllZip};
 ghost use Rattle.log_migration.specs.Migrated.{AreMigrated, IsMigrateNo, IsNotTold};
 ghost use Rattle.log_opening.specs.Devices.{Device, AreBegun, as_device, devices_of, devices_now};
-ghost use Rattle.log_opening.specs.Found.{IsKeptSafe, IsReadyLog};
+ghost use Rattle.log_opening.specs.Found.{IsKeptSafe};
 ghost use Rattle.log_opening.specs.Reads.{AreOpenOn};
 ghost use Rattle.log_opening.specs.Upgrades.{AreOld};
 ghost use Rattle.record_log.specs.Records.{KeepsRecords};
 ghost use Rattle.snap_report.specs.Lines.{migrated_text};
 
+use gate_log::Log;
 use log_opening::{LogsNo, OpenLogs, close, count_old, no_logs, open_and_recover, upgrade_all};
 use snap_outside::LogDev;
 use snap_report::migrated_line;
 use std::alloc::Global;
 
-/// Opens the logs on these devices and recovers what they hold, where a checkpoint counts; then makes each of format 1 one of
-/// format 2, from log 0 on. The answer is the line that tells how many these were, which is made before the first of them is
-/// touched.
+/// Opens all four logs and recovers what those in use hold, where a checkpoint counts; then makes each of these that is of format 1 one
+/// of format 2, from the first on. The answer is the line that tells how many these were, which is made before the first of them is
+/// touched. A log is named by its device.
 pub fn migrate<D: LogDev>(alloc: Global, devices: &mut Vec<D>) -> Result<String, LogsNo>
     requires { vec_len devices.old ≡ 4 }
     ensures migrated { IfOk result (λ line. (count : ℕ) × (string_bytes line ≡ migrated_text count) × AreMigrated (devices_of D.told D.faults devices.old.items) (devices_of D.told D.faults devices.new.items) count) }
     ensures refused { IfErr result (λ no. IsMigrateNo (devices_of D.told D.faults devices.old.items) (devices_of D.told D.faults devices.new.items) no) }
     ensures four { vec_len devices.new ≡ 4 }
-    // A crash at any moment loses no record, so the logs fold to the same as before.
+    // A crash at any moment loses no record, so the logs recover to the same as before.
     ensures safe { AllZip (λ (b a : Device). KeepsRecords b.told a.told) (devices_of D.told D.faults devices.old.items) (devices_of D.told D.faults devices.new.items) }
     ensures later { AllZip (λ (b a : Device). b.faults ≤ a.faults) (devices_of D.told D.faults devices.old.items) (devices_of D.told D.faults devices.new.items) }
 {
@@ -31,11 +32,11 @@ pub fn migrate<D: LogDev>(alloc: Global, devices: &mut Vec<D>) -> Result<String,
     };
     let answer = recover_and_upgrade(alloc, devices, &mut opened);
     let OpenLogs { logs, found: _ } = opened;
-    close(logs, devices);
+    close(logs, devices, 0);
     answer
 }
 
-/// Opens the logs, folds what they hold and upgrades those of format 1. All that were opened stay open.
+/// Opens the logs, recovers what those in use hold and upgrades those of these that are of format 1. All that were opened stay open.
 fn recover_and_upgrade<D: LogDev>(
     alloc: Global,
     devices: &mut Vec<D>,
@@ -53,28 +54,38 @@ fn recover_and_upgrade<D: LogDev>(
     ensures room { 4 ≤ vec_capacity devices.new }
 {
     match open_and_recover(alloc, devices, opened) {
-        Ok(_folded) => tell_and_upgrade(alloc, opened),
+        Ok((_folded, found)) => {
+            tell_and_upgrade(
+                alloc,
+                &mut opened.logs,
+                found.head as usize,
+                found.logs as usize,
+            )
+        }
         Err(no) => Err(no),
     }
 }
 
-/// The line that tells how many of the logs are of format 1, which are upgraded then.
-fn tell_and_upgrade<D: LogDev>(alloc: Global, opened: &mut OpenLogs<D>) -> Result<String, LogsNo>
-    requires few { vec_len opened.old.logs ≤ 4 }
-    requires ready { AllZip IsReadyLog opened.old.logs.items opened.old.found }
-    ensures told { IfOk result (λ line. (count : ℕ) × (string_bytes line ≡ migrated_text count) × ((before others : List Device)
-        → AreOpenOn before (map as_device opened.old.logs.items ++ others) opened.old.logs.items opened.old.found
-        → AreOld (take (length opened.old.found) before) count × AreBegun (length opened.old.found) before (map as_device opened.new.logs.items ++ others))) }
-    ensures failed { IfErr result (λ no. (before others : List Device) → AreOpenOn before (map as_device opened.old.logs.items ++ others) opened.old.logs.items opened.old.found
-        → IsNotTold (length opened.old.found) before (map as_device opened.new.logs.items ++ others) no) }
-    ensures safe { (before others : List Device) → AreOpenOn before (map as_device opened.old.logs.items ++ others) opened.old.logs.items opened.old.found
-        → AllZip IsKeptSafe before (map as_device opened.new.logs.items ++ others) }
-    ensures len { vec_len opened.new.logs ≡ vec_len opened.old.logs }
+/// The line that tells how many of the logs in use, so many from this device on, are of format 1. These are upgraded then.
+fn tell_and_upgrade<D: LogDev>(
+    alloc: Global,
+    logs: &mut Vec<Log<D>>,
+    head: usize,
+    count: usize,
+) -> Result<String, LogsNo>
+    requires within { head + count ≤ vec_len logs.old }
+    requires few { vec_len logs.old ≤ 4 }
+    requires open { AllByRecursion (λ l. l.shut ≡ false) logs.old.items }
+    ensures told { IfOk result (λ line. (old : ℕ) × (string_bytes line ≡ migrated_text old) × ((before : List Device) → AreOpenOn before logs.old.items
+        → AreOld (take count (drop head before)) old × AreBegun head count before (map as_device logs.new.items))) }
+    ensures failed { IfErr result (λ no. (before : List Device) → AreOpenOn before logs.old.items → IsNotTold head count before (map as_device logs.new.items) no) }
+    ensures safe { (before : List Device) → AreOpenOn before logs.old.items → AllZip IsKeptSafe before (map as_device logs.new.items) }
+    ensures len { vec_len logs.new ≡ vec_len logs.old }
 {
-    let Ok(line) = migrated_line(alloc, count_old(opened.logs.as_slice())) else {
+    let Ok(line) = migrated_line(alloc, count_old(logs.as_slice(), head, count)) else {
         return Err(LogsNo::Memory);
     };
-    match upgrade_all(alloc, opened) {
+    match upgrade_all(alloc, logs, head, count) {
         Ok(()) => Ok(line),
         Err(no) => Err(no),
     }

@@ -1,37 +1,42 @@
--- Logs whose number is known, opened, made ready for appends and then decoded.
-use Rattle.std.proofs.Common.{◌≡◌, ℕ, zero, suc, ◌<◌, inl, inr, List, [], ◌∷◌, ◌++◌, length, get_or, take, refl, sym, subst, arith, Result, Ok, Err}
-use Rattle.std.proofs.lemmas.List.{take_all}
+-- All four logs opened for a run, those in use made ready for appends and then decoded.
+use Rattle.std.proofs.Common.{◌≡◌, ◌≢◌, ℕ, ◌+◌, ◌<◌, ◌≤◌, inl, inr, List, [], ◌∷◌, length, map, refl, sym, ◌∙◌, subst, arith, Result, Ok, Err}
 use Rattle.std.specs.Prelude.{MatchResult}
 use Rattle.std.specs.List.{AllZip}
 use Rattle.gate_log.specs.declared.logs.LogItem.{LogItem}
 use Rattle.gate_log.specs.declared.opens.OpenNo.{OpenNo}
 use Rattle.gate_log.specs.declared.opens.OpenNo.TheVariants as refusal
-use Rattle.gate_log.specs.State.{LogState}
+use Rattle.gate_log.specs.State.{LogState, log_at}
 use Rattle.txn_records.specs.declared.records.Record.{Record}
 use Rattle.record_log.specs.Records.{AreItemsOf}
 use Rattle.record_log.specs.RecordLogLaws.{OpenedHeld, ItemsAreRecords}
 use Rattle.snap_recover.specs.declared.causes.LogCause.TheVariants as cause
+use Rattle.log_compact.specs.Compacting.{IsOnSide}
 use Rattle.log_opening.specs.declared.refusals.LogsNo.{LogsNo}
 use Rattle.log_opening.specs.declared.refusals.LogsNo.TheVariants as ending
-use Rattle.log_opening.specs.Devices.{Device, device_at, AreBegun, DeviceBegun, HoldNoOld}
-use Rattle.log_opening.specs.Found.{IsTouched, IsHandled, AreBegunOn, AreFound, IsHalted, no_of_opening, IsNoDecoding}
-use Rattle.log_opening.specs.Counted.{AreOpenWith, AreNotRead}
+use Rattle.log_opening.specs.Devices.{Device, as_device, device_at, AreBegun, IsBegun, IsOpened}
+use Rattle.log_opening.specs.Found.{AreAllFound, IsTouched, IsHandled, IsHalted, no_of_opening, IsNoDecoding}
+use Rattle.log_opening.specs.Kept.{AreUsed, records_at}
+use Rattle.log_opening.specs.Counted.{AreNotRead, AreOpenWith, AreMadeReady, IsAsideLog, IsUsedLog}
+use Rattle.log_opening.specs.Upgrades.{AreNotReady, items_at}
+use Rattle.log_opening.proofs.AllFound.{all_opened, all_touched}
+use Rattle.log_opening.proofs.Numbers.{on_device}
 use Rattle.log_opening.proofs.Places.{zip_weaker}
-use Rattle.log_opening.proofs.ReadyAll.{AllReady, begun_all}
-use Rattle.log_opening.proofs.Reading.{zip_holds, each_record}
-use Rattle.log_opening.proofs.Refusing.{Stop, stopped}
+use Rattle.log_opening.proofs.Reading.{IsPart, all_items, bad_record, each_record, lists_held, lists_many}
+use Rattle.log_opening.proofs.ReadyAll.{AllReady, failed, left_old, opened_on}
+use Rattle.log_opening.proofs.ReadyOne.{ReadyLaws}
+use Rattle.log_opening.proofs.Refusing.{Stop, device_failed, no_memory, not_opened, stopped}
 
 -- ---- not all are opened
 
-stop_read : (count log : ℕ) (before after : List Device) (why : OpenNo) → log < count → Stop log before after why → AreNotRead count before after (no_of_opening log why)
-stop_read count log before after (refusal.NotALog offset) lt stop = record { asked = lt; refused = stop.refused; reached = stop.reached }
-stop_read count log before after (refusal.Damage offset) lt stop = record { asked = lt; refused = stop.refused; reached = stop.reached }
-stop_read count log before after refusal.Device lt stop = (inl (record { asked = lt; refused = stop.refused; reached = stop.reached }), stop.rose refl)
+stop_read : (count log : ℕ) (before after : List Device) (why : OpenNo) → log < 4 → Stop log before after why → AreNotRead count before after (no_of_opening log why)
+stop_read count log before after (refusal.NotALog offset) lt stop = not_opened log before after (refusal.NotALog offset) lt stop
+stop_read count log before after (refusal.Damage offset) lt stop = not_opened log before after (refusal.Damage offset) lt stop
+stop_read count log before after refusal.Device lt stop = inl (device_failed log before after lt stop)
 stop_read count log before after refusal.Memory lt stop = inl (inr (log, lt, stop.refused, stop.reached))
 
-pub halted_read : (count : ℕ) (before after : List Device) (answer : LogsNo) → IsHalted count before after answer → AreNotRead count before after answer
+pub halted_read : (count : ℕ) (before after : List Device) (answer : LogsNo) → IsHalted 4 before after answer → AreNotRead count before after answer
 halted_read count before after answer halted = elim (halted.why) [
-  | inl memory ↦ subst (λ (n : LogsNo). AreNotRead count before after n) (sym memory.0) (inl (inl (memory.1.0, (λ log lt. omega (arith, lt, memory.1.1)), memory.1.2)))
+  | inl memory ↦ subst (λ (n : LogsNo). AreNotRead count before after n) (sym memory.0) (inl (no_memory memory.1.0 before after memory.1.1 memory.1.2))
   | inr at ↦ subst (λ (n : LogsNo). AreNotRead count before after n) (sym at.4) (stop_read count at.0 before after at.1 at.2 (stopped at.0 before after at.1 at.3))
 ]
 
@@ -39,73 +44,98 @@ halted_read count before after answer halted = elim (halted.why) [
 pub opened_handled : (before after : List Device) → AllZip IsTouched before after → AllZip IsHandled before after
 opened_handled before after all = zip_weaker IsTouched IsHandled before after (λ b a one. record { prepared = inl one.opened; safe = one.safe }) all
 
--- ---- not all are decoded
+-- ---- another number of logs is in use
 
-begun_at : (before after : List Device) (found : List (List LogItem)) (i : ℕ) → AreBegunOn before after found → i < length found
-    → (end : ℕ) × DeviceBegun (device_at before i).told (device_at after i).told end (get_or found i [])
-begun_at before after [] i are lt = absurd (omega (arith, lt))
-begun_at [] after (f ∷ fs) i are lt = absurd are
-begun_at (b ∷ bs) [] (f ∷ fs) i are lt = absurd are
-begun_at (b ∷ bs) (a ∷ more) (f ∷ fs) zero are lt = are.0.begun
-begun_at (b ∷ bs) (a ∷ more) (f ∷ fs) (suc i) are lt = begun_at bs more fs i are.1 (omega (arith, lt))
+pub other_count : (count : ℕ) (before after : List Device) (logs : List LogState) (found : List (List LogItem)) (head kept generation : ℕ) → AreAllFound before logs found → after ≡ map as_device logs
+    → AreUsed count before head kept generation → kept ≢ count → AreNotRead count before after (ending.Refused head 0 (cause.LogCount kept count)) × AllZip IsHandled before after
+other_count count before after logs found head kept generation all same used other =
+    subst (λ (ds : List Device). AreNotRead count before ds (ending.Refused head 0 (cause.LogCount kept count)) × AllZip IsHandled before ds) (sym same) (
+      (refl, record { generation = generation; used = used; other = other; texts = refl; opened = all_opened before logs found all }),
+      opened_handled before (map as_device logs) (all_touched before logs found all),
+    )
 
-no_read : OpenedHeld → (count : ℕ) (before mid after : List Device) (logs : List LogState) (found : List (List LogItem)) (answer : LogsNo) → length found ≡ count → AreFound before mid found
-    → AllReady before after logs found → IsNoDecoding found [] answer → AreNotRead count before after answer
-no_read law count before mid after logs found (ending.Refused log offset cause.NotALog) size are ready why = absurd why
-no_read law count before mid after logs found (ending.Refused log offset cause.Damage) size are ready why = absurd why
-no_read law count before mid after logs found (ending.Refused log offset cause.OldFormat) size are ready why = absurd why
-no_read law count before mid after logs found (ending.Refused log offset cause.BadRecord) size are ready why =
-    let at = begun_at before after found log ready.begun why.2 in
-    record {
-      asked = omega (arith, why.2, size);
-      bad = (at.0, get_or found log [], at.1, why.4);
-      below = (why.0, why.1, zip_holds law log before mid found why.0 (omega (arith, why.2)) are why.3);
-      recent = subst (λ (n : ℕ). HoldNoOld n before) size ready.recent;
-      begun = subst (λ (n : ℕ). AreBegun n before after) size (begun_all before after found ready.begun);
-    }
-no_read law count before mid after logs found (ending.Refused log offset cause.Stray) size are ready why = absurd why
-no_read law count before mid after logs found (ending.Refused log offset cause.NoGenesis) size are ready why = absurd why
-no_read law count before mid after logs found (ending.Refused log offset cause.TwoGenesis) size are ready why = absurd why
-no_read law count before mid after logs found (ending.Refused log offset (cause.LogCount k f)) size are ready why = absurd why
-no_read law count before mid after logs found (ending.Refused log offset (cause.Range k)) size are ready why = absurd why
-no_read law count before mid after logs found (ending.Refused log offset (cause.Missing k)) size are ready why = absurd why
-no_read law count before mid after logs found (ending.Refused log offset (cause.Values k u v)) size are ready why = absurd why
-no_read law count before mid after logs found (ending.Refused log offset (cause.Spent n)) size are ready why = absurd why
-no_read law count before mid after logs found (ending.Refused log offset (cause.Differs w k t)) size are ready why = absurd why
-no_read law count before mid after logs found (ending.Device log) size are ready why = absurd why
-no_read law count before mid after logs found ending.Memory size are ready why =
-    inr (subst (λ (n : ℕ). HoldNoOld n before) size ready.recent, subst (λ (n : ℕ). AreBegun n before after) size (begun_all before after found ready.begun))
+-- ---- not made ready
 
--- ---- both
+pub not_ready : ReadyLaws → (before : List Device) (old new : List LogState) (found : List (List LogItem)) (head count generation : ℕ) (answer : LogsNo) → AreAllFound before old found → head + count ≤ 4
+    → length new ≡ length old → AreUsed count before head count generation → AreNotReady head count old new found answer
+    → AreNotRead count before (map as_device new) answer × AllZip IsHandled before (map as_device new)
+not_ready laws before old new found head count generation (ending.Refused log offset cause.OldFormat) all within many used why =
+    let is = left_old laws before old new found head count all within many generation why.1.0 used why.1.2 in
+    subst (λ (l : ℕ). AreNotRead count before (map as_device new) (ending.Refused l offset cause.OldFormat) × AllZip IsHandled before (map as_device new)) (sym why.1.1) ((why.0, is.0), is.1)
+not_ready laws before old new found head count generation (ending.Refused log offset c) all within many used why = absurd why
+not_ready laws before old new found head count generation (ending.Device log) all within many used why =
+    let is = failed laws before old new found head count all within many why.0 why.2 generation used in
+    subst (λ (l : ℕ). AreNotRead count before (map as_device new) (ending.Device l) × AllZip IsHandled before (map as_device new)) (sym why.1) (inr is.0, is.1)
+not_ready laws before old new found head count generation ending.Memory all within many used why = absurd why
 
-pub all_read : OpenedHeld → ItemsAreRecords → (count : ℕ) (before mid after : List Device) (logs : List LogState) (found : List (List LogItem)) (r : Result (List (List Record)) LogsNo) → length found ≡ count
-    → AreFound before mid found → AllReady before after logs found
-    → MatchResult r (λ records. AllZip AreItemsOf found records × ((more : List (List Record)) × (records ≡ [] ++ more))) (λ a. IsNoDecoding found [] a)
-    → MatchResult r (λ records. AreOpenWith before after logs found records) (λ a. AreNotRead count before after a × AllZip IsHandled before after)
-all_read law each count before mid after logs found (Ok records) size are ready said = record {
-  are_begun = ready.begun;
-  ready = ready.ready;
-  second = ready.second;
-  recent = ready.recent;
-  items = said.0;
-  each = each_record each found records said.0;
-  held = zip_holds law (length found) before mid found records (omega arith) are
-      (subst (λ (l : List (List LogItem)). AllZip AreItemsOf l records) (sym (take_all (length found) found (omega arith))) said.0);
-  begun = begun_all before after found ready.begun;
-  handled = ready.handled;
-}
-all_read law each count before mid after logs found (Err a) size are ready said = (no_read law count before mid after logs found a size are ready said, ready.handled)
+-- ---- decoded, or not
 
--- from what decoding them from the first one on answers
-pub read_from : OpenedHeld → ItemsAreRecords → (count : ℕ) (before mid after : List Device) (logs : List LogState) (found slice : List (List LogItem)) (known : List (List Record)) (r : Result (List (List Record)) LogsNo)
-    → length found ≡ count → AreFound before mid found → AllReady before after logs found → slice ≡ found → known ≡ []
-    → MatchResult r (λ records. AllZip AreItemsOf slice records × ((more : List (List Record)) × (records ≡ known ++ more))) (λ a. IsNoDecoding slice known a)
-    → MatchResult r (λ records. AreOpenWith before after logs found records) (λ a. AreNotRead count before after a × AllZip IsHandled before after)
-read_from law each count before mid after logs found slice known r size are ready same none said =
-    all_read law each count before mid after logs found r size are ready
-    (subst (λ (k : List (List Record)). MatchResult r (λ records. AllZip AreItemsOf found records × ((more : List (List Record)) × (records ≡ k ++ more))) (λ a. IsNoDecoding found k a)) none
-    (subst (λ (l : List (List LogItem)). MatchResult r (λ records. AllZip AreItemsOf l records × ((more : List (List Record)) × (records ≡ known ++ more))) (λ a. IsNoDecoding l known a)) same said))
+-- a log that holds no record has no item
+no_items : (items : List LogItem) (rs : List Record) → AreItemsOf items rs → rs ≡ [] → items ≡ []
+no_items [] rs are none = refl
+no_items (i ∷ items) rs are none = let bad : are.0 ∷ are.1 ≡ [] = sym are.2 ∙ none in absurd (cc)
 
--- no record is known yet
-pub none_known : (slice : List (List LogItem)) (known : List (List Record)) → known ≡ [] → AllZip AreItemsOf (take (length known) slice) known
-none_known slice known none = subst (λ (k : List (List Record)). AllZip AreItemsOf (take (length k) slice) k) (sym none) tt
+module _ (law : OpenedHeld) (before : List Device) (old new : List LogState) (found part : List (List LogItem)) (head count generation : ℕ) (all : AreAllFound before old found) (is : IsPart found part head count) (used : AreUsed count before head count generation) (ready : AllReady head count before new found) where
+  are_begun : AreBegun head count before (map as_device new)
+  are_begun = record {
+    begun = λ l lt.
+        let on = ready.begun l lt in
+        on_device (λ (a : Device). IsBegun (device_at before (head + l)) a) new (head + l) (on.begun.0, items_at found (head + l), on.begun.1);
+    aside = λ d lt not. on_device (λ (a : Device). IsOpened (device_at before d) a) new d (opened_on (device_at before d) (as_device (log_at new d)) (items_at found d) (ready.found_on d lt not));
+  }
+
+  ready_now : AreMadeReady count before (map as_device new)
+  ready_now = record { head = head; generation = generation; used = used; recent = ready.recent; begun = are_begun }
+
+  no_read : (answer : LogsNo) → IsNoDecoding head part answer → AreNotRead count before (map as_device new) answer
+  no_read (ending.Refused log offset cause.BadRecord) why = (bad_record law before old found part head count all is count generation (map as_device new) log offset used why, ready_now)
+  no_read (ending.Refused log offset c) why = absurd why
+  no_read (ending.Device log) why = absurd why
+  no_read ending.Memory why = inr ready_now
+
+  pub not_decoded : (answer : LogsNo) → IsNoDecoding head part answer → AreNotRead count before (map as_device new) answer × AllZip IsHandled before (map as_device new)
+  not_decoded answer why = (no_read answer why, ready.handled)
+
+  used_log : (lists : List (List Record)) → AllZip AreItemsOf part lists → (l : ℕ) → l < count → IsUsedLog (device_at before (head + l)) (log_at new (head + l)) (records_at lists l)
+  used_log lists zip l lt = record {
+    items = items_at found (head + l);
+    begun = ready.begun l lt;
+    ready = ready.ready l lt;
+    second = ready.second l lt;
+    are = all_items law before old found part head count all is lists zip l lt;
+  }
+
+  aside_log : (d : ℕ) → d < 4 → ¬ IsOnSide head count d → IsAsideLog (device_at before d) (log_at new d)
+  aside_log d lt not = record { items = items_at found d; found = ready.found_on d lt not; ready = ready.found_ready d lt not }
+
+  -- where log 0 holds no record, no item was found on the head
+  head_empty : (lists : List (List Record)) → AllZip AreItemsOf part lists → length lists ≡ count → 1 ≤ length lists → records_at lists 0 ≡ [] → items_at found head ≡ []
+  head_empty lists zip many some none =
+      let here : head + 0 ≡ head = omega arith in
+      let are : AreItemsOf (items_at found (head + 0)) (records_at lists 0) = all_items law before old found part head count all is lists zip 0 (omega (arith, some, many)) in
+      no_items (items_at found head) (records_at lists 0) (subst (λ (d : ℕ). AreItemsOf (items_at found d) (records_at lists 0)) here are) none
+
+  pub decoded : ItemsAreRecords → (items_at found head ≡ [] → (head ≡ 0) × (generation ≡ 0)) → (lists : List (List Record)) → AllZip AreItemsOf part lists → AreOpenWith before new head generation lists × (length lists ≡ count)
+  decoded each begun lists zip =
+      let many : length lists ≡ count = lists_many law before old found part head count all is lists zip in
+      let back : count ≡ length lists = sym many in (
+        record {
+          used = subst (λ (n : ℕ). AreUsed n before head n generation) back used;
+          recent = λ l lt. ready.recent l (omega (arith, lt, many));
+          each = each_record each part lists zip;
+          held = lists_held law before old found part head count all is lists zip;
+          many = ready.many;
+          within = omega (arith, many, is.within);
+          in_use = λ l lt. used_log lists zip l (omega (arith, lt, many));
+          aside = subst (λ (n : ℕ). (d : ℕ) → d < 4 → ¬ IsOnSide head n d → IsAsideLog (device_at before d) (log_at new d)) back aside_log;
+          handled = ready.handled;
+          begun = λ some none. begun (head_empty lists zip many some none);
+        },
+        many,
+      )
+
+  -- as decoding answers
+  pub read_all : ItemsAreRecords → (items_at found head ≡ [] → (head ≡ 0) × (generation ≡ 0)) → (r : Result (List (List Record)) LogsNo) → MatchResult r (λ lists. AllZip AreItemsOf part lists) (λ a. IsNoDecoding head part a)
+      → MatchResult r (λ lists. AreOpenWith before new head generation lists × (length lists ≡ count)) (λ a. AreNotRead count before (map as_device new) a × AllZip IsHandled before (map as_device new))
+  read_all each begun (Ok lists) zip = decoded each begun lists zip
+  read_all each begun (Err a) why = not_decoded a why

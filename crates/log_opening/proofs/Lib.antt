@@ -1,5 +1,9 @@
+pub mod AllFound
 pub mod Counting
 pub mod Flow
+pub mod Folding
+pub mod Making
+pub mod Numbers
 pub mod Opening
 pub mod Places
 pub mod Reading

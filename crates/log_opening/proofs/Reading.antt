@@ -1,67 +1,26 @@
--- What the items of logs are, and what their records say.
-use Rattle.std.proofs.Common.{◌≡◌, ℕ, ◌+◌, ◌<◌, ◌≤◌, List, [], ◌∷◌, ◌++◌, zero, suc, length, get_or, take, filter, refl, sym, ◌∙◌, ap, subst, arith, Option, Some, None}
-use Rattle.std.proofs.lemmas.List.{append-nil, take_all, length-take-le}
+-- What the items of the logs in use are, and what these hold.
+use Rattle.std.proofs.Common.{◌≡◌, ℕ, zero, suc, ◌+◌, ◌<◌, ◌≤◌, List, [], ◌∷◌, ◌++◌, length, get_or, take, sym, ◌∙◌, ap, subst, arith, Option, Some, None}
+use Rattle.std.proofs.lemmas.List.{get_or-take, length-take-le}
 use Rattle.std.proofs.lemmas.Slice.Zip.{AllZip-long}
-use Rattle.std.specs.Prelude.{IfSome}
+use Rattle.std.specs.Prelude.{IfSome, slice_range}
 use Rattle.std.specs.List.{AllZip, AllByRecursion}
-use Rattle.snap_base.specs.declared.transactions.State.{State}
 use Rattle.snap_outside.specs.Disk.{DeviceHistory, content}
 use Rattle.gate_log.specs.declared.logs.LogItem.{LogItem}
 use Rattle.gate_log.specs.Opened.{Opened}
+use Rattle.gate_log.specs.State.{LogState, log_at}
 use Rattle.txn_records.specs.declared.records.Record.{Record}
-use Rattle.txn_records.specs.declared.records.Record.TheVariants.{Genesis, BatchInfo, BatchComplete, BatchCommit, ActPrepare, ActCommit, BatchDone, ActDone, Checkpoint}
 use Rattle.txn_records.specs.Records.{IsRecord}
 use Rattle.record_log.specs.Records.{HoldsRecords, AreItemsOf, IsFirstBadIn}
 use Rattle.record_log.specs.RecordLogLaws.{OpenedHeld, ItemsAreRecords}
-use Rattle.snap_recover.specs.Logs.{is_genesis, geneses}
 use Rattle.snap_recover.specs.declared.causes.LogCause.TheVariants as cause
 use Rattle.log_opening.specs.declared.refusals.LogsNo.{LogsNo}
 use Rattle.log_opening.specs.declared.refusals.LogsNo.TheVariants as ending
-use Rattle.log_opening.specs.Devices.{Device, device_at}
-use Rattle.log_opening.specs.Found.{IsFoundOn, ArePlaced, AreFound, IsNoReading, IsNoDecoding}
-use Rattle.log_opening.specs.Kept.{logs_said, DeviceHolds, AreGiven}
-
--- ---- how many logs there are
-
-pub said_first : (rs more : List Record) (logs : ℕ) (states : List State) → filter is_genesis rs ≡ Genesis logs states ∷ more → logs_said rs ≡ logs
-said_first [] more logs states is = absurd (cc)
-said_first (Genesis n ss ∷ rs) more logs states is = cc
-said_first (BatchInfo b a t ∷ rs) more logs states is = said_first rs more logs states is
-said_first (BatchComplete b a s ∷ rs) more logs states is = said_first rs more logs states is
-said_first (BatchCommit b ∷ rs) more logs states is = said_first rs more logs states is
-said_first (ActPrepare t a s ∷ rs) more logs states is = said_first rs more logs states is
-said_first (ActCommit t m c a ∷ rs) more logs states is = said_first rs more logs states is
-said_first (BatchDone b v ∷ rs) more logs states is = said_first rs more logs states is
-said_first (ActDone t m c v a ∷ rs) more logs states is = said_first rs more logs states is
-said_first (Checkpoint g t b c m n ss ∷ rs) more logs states is = said_first rs more logs states is
-
-pub said_one : (rs : List Record) → filter is_genesis rs ≡ [] → logs_said rs ≡ 1
-said_one [] none = refl
-said_one (Genesis n ss ∷ rs) none = absurd (cc)
-said_one (BatchInfo b a t ∷ rs) none = said_one rs none
-said_one (BatchComplete b a s ∷ rs) none = said_one rs none
-said_one (BatchCommit b ∷ rs) none = said_one rs none
-said_one (ActPrepare t a s ∷ rs) none = said_one rs none
-said_one (ActCommit t m c a ∷ rs) none = said_one rs none
-said_one (BatchDone b v ∷ rs) none = said_one rs none
-said_one (ActDone t m c v a ∷ rs) none = said_one rs none
-said_one (Checkpoint g t b c m n ss ∷ rs) none = said_one rs none
-
--- the Geneses of one log
-pub geneses_one : (logs : List (List Record)) (rs : List Record) → logs ≡ rs ∷ [] → geneses logs ≡ filter is_genesis rs
-geneses_one logs rs one = ap (λ (l : List (List Record)). geneses l) one ∙ ap (λ (l : List Record). filter is_genesis l) (append-nil rs)
-
-pub said_range : (rs : List Record) → AllByRecursion IsRecord rs → (1 ≤ logs_said rs) × (logs_said rs ≤ 4)
-said_range [] are = (omega arith, omega arith)
-said_range (Genesis n ss ∷ rs) are = (are.0.some_logs, are.0.few_logs)
-said_range (BatchInfo b a t ∷ rs) are = said_range rs are.1
-said_range (BatchComplete b a s ∷ rs) are = said_range rs are.1
-said_range (BatchCommit b ∷ rs) are = said_range rs are.1
-said_range (ActPrepare t a s ∷ rs) are = said_range rs are.1
-said_range (ActCommit t m c a ∷ rs) are = said_range rs are.1
-said_range (BatchDone b v ∷ rs) are = said_range rs are.1
-said_range (ActDone t m c v a ∷ rs) are = said_range rs are.1
-said_range (Checkpoint g t b c m n ss ∷ rs) are = said_range rs are.1
+use Rattle.log_opening.specs.Devices.{Device, as_device, device_at}
+use Rattle.log_opening.specs.Found.{AreAllFound, ArePlaced, IsFoundOn, IsNoReading, IsNoDecoding}
+use Rattle.log_opening.specs.Kept.{AreGiven, AreUsed, DeviceHolds, HasBadRecord, HoldLists, records_at}
+use Rattle.log_opening.specs.Upgrades.{items_at}
+use Rattle.log_opening.proofs.AllFound.{found_at, found_many}
+use Rattle.log_opening.proofs.Numbers.{each_zip, part_at, part_long}
 
 -- ---- what the devices hold
 
@@ -72,41 +31,10 @@ holds_told held (Some h) new end items rs opened are = held h new end items rs o
 pub holds_of : OpenedHeld → (b a : Device) (items : List LogItem) (rs : List Record) → IsFoundOn b a items → AreItemsOf items rs → DeviceHolds b rs
 holds_of held b a items rs on are = holds_told held b.told a.told on.opened.0 items rs on.opened.1 are
 
-pub zip_holds : OpenedHeld → (n : ℕ) (before after : List Device) (found : List (List LogItem)) (logs : List (List Record)) → n ≤ length found → AreFound before after found
-    → AllZip AreItemsOf (take n found) logs → AllZip DeviceHolds (take n before) logs
-zip_holds held zero before after found [] le are all = tt
-zip_holds held zero before after found (l ∷ ls) le are all = absurd all
-zip_holds held (suc n) before after [] logs le are all = absurd (omega (arith, le))
-zip_holds held (suc n) [] after (i ∷ is) logs le are all = absurd are
-zip_holds held (suc n) (b ∷ bs) [] (i ∷ is) logs le are all = absurd are
-zip_holds held (suc n) (b ∷ bs) (a ∷ more) (i ∷ is) [] le are all = absurd all
-zip_holds held (suc n) (b ∷ bs) (a ∷ more) (i ∷ is) (l ∷ ls) le are all = (holds_of held b a i l are.0 all.0, zip_holds held n bs more is ls (omega (arith, le)) are.1 all.1)
-
-pub zip_first : (n : ℕ) (before : List Device) (first : List Record) (others : List (List Record)) → AllZip DeviceHolds (take n before) (first ∷ others) → DeviceHolds (device_at before 0) first
-zip_first zero before first others all = absurd all
-zip_first (suc n) [] first others all = absurd all
-zip_first (suc n) (b ∷ bs) first others all = all.0
-
-pub found_placed : (before after : List Device) (found : List (List LogItem)) → AreFound before after found → AllByRecursion ArePlaced found
-found_placed before after [] are = tt
-found_placed [] after (i ∷ is) are = absurd are
-found_placed (b ∷ bs) [] (i ∷ is) are = absurd are
-found_placed (b ∷ bs) (a ∷ more) (i ∷ is) are = (are.0.placed, found_placed bs more is are.1)
-
 pub placed_at : (found : List (List LogItem)) (i : ℕ) (d : List LogItem) → i < length found → AllByRecursion ArePlaced found → ArePlaced (get_or found i d)
 placed_at [] i d lt all = absurd (omega (arith, lt))
 placed_at (f ∷ fs) zero d lt all = all.0
 placed_at (f ∷ fs) (suc i) d lt all = placed_at fs i d (omega (arith, lt)) all.1
-
-pub found_opened_at : (before after : List Device) (found : List (List LogItem)) (i : ℕ) → AreFound before after found → i < length found
-    → (end : ℕ) × Opened (device_at before i).told (device_at after i).told end (get_or found i [])
-found_opened_at before after [] i are lt = absurd (omega (arith, lt))
-found_opened_at [] after (f ∷ fs) i are lt = absurd are
-found_opened_at (b ∷ bs) [] (f ∷ fs) i are lt = absurd are
-found_opened_at (b ∷ bs) (a ∷ more) (f ∷ fs) zero are lt = are.0.opened
-found_opened_at (b ∷ bs) (a ∷ more) (f ∷ fs) (suc i) are lt = found_opened_at bs more fs i are.1 (omega (arith, lt))
-
--- ---- the records of all logs
 
 pub each_record : ItemsAreRecords → (found : List (List LogItem)) (logs : List (List Record)) → AllZip AreItemsOf found logs → AllByRecursion (AllByRecursion IsRecord) logs
 each_record each [] [] all = tt
@@ -114,15 +42,74 @@ each_record each [] (l ∷ ls) all = absurd all
 each_record each (f ∷ fs) [] all = absurd all
 each_record each (f ∷ fs) (l ∷ ls) all = (each f l all.0, each_record each fs ls all.1)
 
-pub given : OpenedHeld → ItemsAreRecords → (before after : List Device) (found : List (List LogItem)) (first : List Record) (others logs : List (List Record)) → AreFound before after found
-    → AllZip AreItemsOf found logs → logs ≡ first ∷ others → length found ≡ logs_said first → AreGiven before logs
-given law each before after found first others logs are all same said =
-    let len : length logs ≡ length found = AllZip-long AreItemsOf found logs all in
-    let held : AllZip DeviceHolds (take (length found) before) logs = zip_holds law (length found) before after found logs (omega arith) are
-    (subst (λ (l : List (List LogItem)). AllZip AreItemsOf l logs) (sym (take_all (length found) found (omega arith))) all) in
-    (first, others, same, len ∙ said, each_record each found logs all, subst (λ (n : ℕ). AllZip DeviceHolds (take n before) logs) (sym len) held)
+-- ---- the logs in use
 
--- the items of one more log are records
+-- The logs in use are so many from the head on, and these are the items that were found in them.
+pub record IsPart (found part : List (List LogItem)) (head count : ℕ) : Type 0 where
+  pub is : part ≡ slice_range found head (head + count)
+  pub within : head + count ≤ 4
+
+module _ (law : OpenedHeld) (before : List Device) (logs : List LogState) (found part : List (List LogItem)) (head count : ℕ) (all : AreAllFound before logs found) (is : IsPart found part head count) where
+  pub part_many : length part ≡ count
+  part_many = ap (λ (l : List (List LogItem)). length l) is.is ∙ part_long found head count (omega (arith, is.within, found_many before logs found all))
+
+  items_there : (l : ℕ) → l < count → get_or part l [] ≡ items_at found (head + l)
+  items_there l lt = ap (λ (p : List (List LogItem)). get_or p l []) is.is ∙ part_at found head count l [] lt
+
+  -- those of the first of them, so many
+  pub first_items : (lists : List (List Record)) → length lists ≤ count → AllZip AreItemsOf (take (length lists) part) lists → (l : ℕ) → l < length lists → AreItemsOf (items_at found (head + l)) (records_at lists l)
+  first_items lists few zip l lt =
+      let size : length (take (length lists) part) ≡ length lists = length-take-le (length lists) part (omega (arith, few, part_many)) in
+      let one : AreItemsOf (get_or (take (length lists) part) l []) (records_at lists l) = each_zip AreItemsOf (take (length lists) part) lists [] [] l zip (omega (arith, lt, size)) in
+      subst (λ (items : List LogItem). AreItemsOf items (records_at lists l)) (get_or-take (length lists) part l [] lt ∙ items_there l (omega (arith, lt, few))) one
+
+  pub lists_many : (lists : List (List Record)) → AllZip AreItemsOf part lists → length lists ≡ count
+  lists_many lists zip = AllZip-long AreItemsOf part lists zip ∙ part_many
+
+  pub all_items : (lists : List (List Record)) → AllZip AreItemsOf part lists → (l : ℕ) → l < count → AreItemsOf (items_at found (head + l)) (records_at lists l)
+  all_items lists zip l lt =
+      subst (λ (items : List LogItem). AreItemsOf items (records_at lists l)) (items_there l lt) (each_zip AreItemsOf part lists [] [] l zip (omega (arith, lt, part_many)))
+
+  held_from : (lists : List (List Record)) → length lists ≤ count → ((l : ℕ) → l < length lists → AreItemsOf (items_at found (head + l)) (records_at lists l)) → HoldLists before head lists
+  held_from lists few each = λ l lt.
+      holds_of law (device_at before (head + l)) (as_device (log_at logs (head + l))) (items_at found (head + l)) (records_at lists l)
+      (found_at before logs found all (head + l) (omega (arith, lt, few, is.within))) (each l lt)
+
+  pub lists_held : (lists : List (List Record)) → AllZip AreItemsOf part lists → HoldLists before head lists
+  lists_held lists zip =
+      let many = lists_many lists zip in
+      held_from lists (omega (arith, many)) (λ l lt. all_items lists zip l (omega (arith, lt, many)))
+
+  pub given_lists : ItemsAreRecords → (generation : ℕ) (lists : List (List Record)) → AreUsed 1 before head count generation → AllZip AreItemsOf part lists → AreGiven before head lists
+  given_lists each generation lists used zip = record {
+    generation = generation;
+    used = subst (λ (n : ℕ). AreUsed 1 before head n generation) (sym (lists_many lists zip)) used;
+    each = each_record each part lists zip;
+    held = lists_held lists zip;
+  }
+
+  -- an item of one of them is no record
+  pub bad_record : (many generation : ℕ) (after : List Device) (log offset : ℕ) → AreUsed many before head count generation → IsNoDecoding head part (ending.Refused log offset cause.BadRecord) → HasBadRecord many before after log offset
+  bad_record many generation after log offset used why =
+      let below = why.0 in
+      let fewer : length below < count = omega (arith, why.2, part_many) in
+      let on = found_at before logs found all (head + length below) (omega (arith, fewer, is.within)) in
+      let bad : IsFirstBadIn (items_at found (head + length below)) offset = subst (λ (items : List LogItem). IsFirstBadIn items offset) (items_there (length below) fewer) why.4 in
+      record {
+        head = head;
+        count = count;
+        generation = generation;
+        used = used;
+        below = below;
+        held = held_from below (omega (arith, fewer)) (first_items below (omega (arith, fewer)) why.3);
+        asked = fewer;
+        is = why.1;
+        bad = subst (λ (n : ℕ). (end : ℕ) × (opened : Option DeviceHistory) × (items : List LogItem) × Opened (device_at before n).told opened end items × IsFirstBadIn items offset) (sym why.1)
+            (on.opened.0, (log_at logs (head + length below)).told, items_at found (head + length below), on.opened.1, bad);
+      }
+
+-- ---- one more log
+
 zip_next : (found : List (List LogItem)) (logs : List (List Record)) (log : ℕ) (rs : List Record) → log < length found → AllZip AreItemsOf (take log found) logs
     → AreItemsOf (get_or found log []) rs → AllZip AreItemsOf (take (suc log) found) (logs ++ rs ∷ [])
 zip_next [] logs log rs lt all are = absurd (omega (arith, lt))
@@ -138,30 +125,17 @@ zip_more found logs pushed log rs lt push all are =
     subst (λ (n : ℕ). AllZip AreItemsOf (take n found) pushed) next
     (subst (λ (ls : List (List Record)). AllZip AreItemsOf (take (suc log) found) ls) (sym push) (zip_next found logs log rs lt all are))
 
--- ---- an item that is no record
-
-pub bad_among : (found : List (List LogItem)) (known : List (List Record)) (log : ℕ) (logs more : List (List Record)) (answer : LogsNo) → log < length found
-    → AllZip AreItemsOf (take log found) logs → logs ≡ known ++ more → IsNoReading (get_or found log []) log answer → IsNoDecoding found known answer
-bad_among found known log logs more (ending.Refused l offset cause.BadRecord) lt all same why =
-    let len : length logs ≡ length (take log found) = AllZip-long AreItemsOf (take log found) logs all in
-    let count : log ≡ length (known ++ more) = sym (length-take-le log found (omega (arith, lt))) ∙ sym len ∙ ap length same in (
-      more,
-      why.0 ∙ count,
-      omega (arith, why.0, lt),
-      subst (λ (n : ℕ). AllZip AreItemsOf (take n found) (known ++ more)) (sym why.0) (subst (λ (ls : List (List Record)). AllZip AreItemsOf (take log found) ls) same all),
-      subst (λ (n : ℕ). IsFirstBadIn (get_or found n []) offset) (sym why.0) why.1,
+-- an item is no record
+pub bad_among : (head : ℕ) (found : List (List LogItem)) (number : ℕ) (lists : List (List Record)) (answer : LogsNo) → number < length found → AllZip AreItemsOf (take number found) lists
+    → IsNoReading (get_or found number []) (head + number) answer → IsNoDecoding head found answer
+bad_among head found number lists (ending.Refused log offset cause.BadRecord) lt all why =
+    let size : length lists ≡ number = AllZip-long AreItemsOf (take number found) lists all ∙ length-take-le number found (omega (arith, lt)) in (
+      lists,
+      omega (arith, why.0, size),
+      omega (arith, size, lt),
+      subst (λ (n : ℕ). AllZip AreItemsOf (take n found) lists) (sym size) all,
+      subst (λ (n : ℕ). IsFirstBadIn (get_or found n []) offset) (sym size) why.1,
     )
-bad_among found known log logs more (ending.Refused l offset cause.NotALog) lt all same why = absurd why
-bad_among found known log logs more (ending.Refused l offset cause.Damage) lt all same why = absurd why
-bad_among found known log logs more (ending.Refused l offset cause.OldFormat) lt all same why = absurd why
-bad_among found known log logs more (ending.Refused l offset cause.Stray) lt all same why = absurd why
-bad_among found known log logs more (ending.Refused l offset cause.NoGenesis) lt all same why = absurd why
-bad_among found known log logs more (ending.Refused l offset cause.TwoGenesis) lt all same why = absurd why
-bad_among found known log logs more (ending.Refused l offset (cause.LogCount k f)) lt all same why = absurd why
-bad_among found known log logs more (ending.Refused l offset (cause.Range k)) lt all same why = absurd why
-bad_among found known log logs more (ending.Refused l offset (cause.Missing k)) lt all same why = absurd why
-bad_among found known log logs more (ending.Refused l offset (cause.Values k u v)) lt all same why = absurd why
-bad_among found known log logs more (ending.Refused l offset (cause.Spent n)) lt all same why = absurd why
-bad_among found known log logs more (ending.Refused l offset (cause.Differs w k t)) lt all same why = absurd why
-bad_among found known log logs more (ending.Device l) lt all same why = absurd why
-bad_among found known log logs more ending.Memory lt all same why = tt
+bad_among head found number lists (ending.Refused log offset c) lt all why = absurd why
+bad_among head found number lists (ending.Device log) lt all why = absurd why
+bad_among head found number lists ending.Memory lt all why = tt

@@ -1,284 +1,148 @@
--- Open logs that are made ready for appends, on all devices.
-use Rattle.std.proofs.Common.{◌≡◌, ℕ, zero, suc, ◌+◌, ◌<◌, ◌≤◌, inl, inr, List, [], ◌∷◌, ◌++◌, length, map, take, drop, refl, sym, subst, arith}
+-- Open logs in use that are made ready for appends, on all devices.
+use Rattle.std.proofs.Common.{◌≡◌, ℕ, ◌+◌, ◌<◌, ◌≤◌, inl, inr, List, length, map, refl, sym, ◌∙◌, subst, arith}
 use Rattle.std.specs.Prelude.{◌⊎◌}
-use Rattle.std.specs.List.{AllByRecursion, AllZip}
+use Rattle.std.specs.List.{AllZip}
 use Rattle.snap_base.proofs.Booleans.{three_ways}
-use Rattle.snap_outside.specs.Causes.{Rose}
 use Rattle.gate_log.specs.declared.logs.LogItem.{LogItem}
 use Rattle.gate_log.specs.State.{LogState, log_at}
-use Rattle.snap_recover.specs.declared.causes.LogCause.TheVariants as cause
-use Rattle.log_opening.specs.declared.refusals.LogsNo.{LogsNo}
-use Rattle.log_opening.specs.declared.refusals.LogsNo.TheVariants as ending
-use Rattle.log_opening.specs.Counted.{AreNotRead, FailsUpgrade, HasOldFormat}
-use Rattle.log_opening.specs.Devices.{Device, as_device, device_at, AreBegun, HoldNoOld, HoldsOld, IsBegun, IsOpened, IsDevicePrepared, IsUpgradeCutOff}
-use Rattle.log_opening.specs.Found.{AreBegunOn, AreFound, IsHandled, IsReadyLog}
-use Rattle.log_opening.specs.Upgrades.{AreNotReady, AreAllReady, IsLeftOld, IsMadeReady, IsNotMadeReady, IsStopped, items_at}
-use Rattle.log_opening.proofs.Opening.{found_zip, untouched}
+use Rattle.log_compact.specs.Compacting.{IsOnSide}
+use Rattle.log_opening.specs.Counted.{FailsUpgrade, HasOldFormat}
+use Rattle.log_opening.specs.Devices.{Device, as_device, device_at, HoldNoOld, IsDevicePrepared, IsOpened, IsUpgradeCutOff}
+use Rattle.log_opening.specs.Found.{AreAllFound, IsBegunOn, IsFoundOn, IsHandled, IsReadyLog}
+use Rattle.log_opening.specs.Kept.{AreUsed}
+use Rattle.log_opening.specs.Upgrades.{AreAllReady, IsLeftOld, IsMadeReady, IsStopped, items_at}
+use Rattle.log_opening.proofs.AllFound.{all_whole, found_at, ready_at}
+use Rattle.log_opening.proofs.Numbers.{each_device, on_device, zip_four}
 use Rattle.log_opening.proofs.ReadyOne.{ReadyLaws, begun_on, still_ready, no_old, is_old, prepared, handled, cut_off, handled_failed, has_risen}
+use Rattle.snap_outside.specs.Causes.{Rose}
 
--- the devices of these logs, and the others
-abbrev pub with_logs : List LogState → List Device → List Device
-with_logs logs others = map as_device logs ++ others
+-- Those in use are open, hold these items, and are of format 2 now; the others are only opened.
+pub record AllReady (head count : ℕ) (before : List Device) (logs : List LogState) (found : List (List LogItem)) : Type 0 where
+  pub begun : (l : ℕ) → l < count → IsBegunOn (device_at before (head + l)) (as_device (log_at logs (head + l))) (items_at found (head + l))
+  pub ready : (l : ℕ) → l < count → IsReadyLog (log_at logs (head + l)) (items_at found (head + l))
+  pub second : (l : ℕ) → l < count → (log_at logs (head + l)).format ≡ 2
+  pub recent : HoldNoOld head count before
+  pub many : length logs ≡ 4
+  pub found_on : (d : ℕ) → d < 4 → ¬ IsOnSide head count d → IsFoundOn (device_at before d) (as_device (log_at logs d)) (items_at found d)
+  pub found_ready : (d : ℕ) → d < 4 → ¬ IsOnSide head count d → IsReadyLog (log_at logs d) (items_at found d)
+  pub handled : AllZip IsHandled before (map as_device logs)
 
--- ---- lists of logs, by their numbers
+pub opened_on : (b a : Device) (items : List LogItem) → IsFoundOn b a items → IsOpened b a
+opened_on b a items on = (on.opened.0, items, on.opened.1)
 
-same_logs : (xs ys : List LogState) → length xs ≡ length ys → ((l : ℕ) → log_at xs l ≡ log_at ys l) → xs ≡ ys
-same_logs [] [] long each = refl
-same_logs [] (y ∷ ys) long each = absurd (omega (arith, long))
-same_logs (x ∷ xs) [] long each = absurd (omega (arith, long))
-same_logs (x ∷ xs) (y ∷ ys) long each =
-    let first : x ≡ y = each 0 in
-    let others : xs ≡ ys = same_logs xs ys (omega (arith, long)) (λ l. each (suc l)) in
-    cc
+handled_on : (b a : Device) (items : List LogItem) → IsFoundOn b a items → IsHandled b a
+handled_on b a items on = record { prepared = inl (inr (inl (opened_on b a items on))); safe = on.safe }
 
--- how each went
-abbrev pub EachLog : (LogState → LogState → List LogItem → Type 0) → List LogState → List LogState → List (List LogItem) → Type 0
-EachLog P [] [] [] = Unit {0}
-EachLog P (l ∷ ls) (k ∷ ks) (f ∷ fs) = P l k f × EachLog P ls ks fs
-EachLog P ls ks fs = ⊥
+-- the ones behind this number, or not in use at all, are not among the first
+pub above_not : (head n l : ℕ) → n < l → ¬ IsOnSide head (n + 1) (head + l)
+above_not head n l gt = λ side. let before : head + l < head + (n + 1) = side.before in omega (arith, before, gt)
 
-pub each_log : (P : LogState → LogState → List LogItem → Type 0) (old new : List LogState) (found : List (List LogItem)) → length new ≡ length old → length found ≡ length old
-    → ((l : ℕ) → l < length old → P (log_at old l) (log_at new l) (items_at found l)) → EachLog P old new found
-each_log P [] [] [] many as_many each = tt
-each_log P [] [] (f ∷ fs) many as_many each = absurd (omega (arith, as_many))
-each_log P [] (k ∷ ks) fs many as_many each = absurd (omega (arith, many))
-each_log P (l ∷ ls) [] fs many as_many each = absurd (omega (arith, many))
-each_log P (l ∷ ls) (k ∷ ks) [] many as_many each = absurd (omega (arith, as_many))
-each_log P (l ∷ ls) (k ∷ ks) (f ∷ fs) many as_many each =
-    (each 0 (omega arith), each_log P ls ks fs (omega (arith, many)) (omega (arith, as_many)) (λ n lt. each (suc n) (omega (arith, lt))))
+pub aside_not : (head n count d : ℕ) → n < count → ¬ IsOnSide head count d → ¬ IsOnSide head (n + 1) d
+aside_not head n count d lt not = λ side. let before : d < head + (n + 1) = side.before in not (record { behind = side.behind; before = omega (arith, before, lt) })
 
-abbrev pub Second : List LogState → Type 0
-Second logs = AllByRecursion (λ (l : LogState). l.format ≡ 2) logs
+module _ (laws : ReadyLaws) (before : List Device) (old new : List LogState) (found : List (List LogItem)) (head count : ℕ) (all : AreAllFound before old found) (within : head + count ≤ 4) (many : length new ≡ length old) where
+  used_at : (l : ℕ) → l < count → IsFoundOn (device_at before (head + l)) (as_device (log_at old (head + l))) (items_at found (head + l))
+  used_at l lt = found_at before old found all (head + l) (omega (arith, lt, within))
 
-pub all_second : (logs : List LogState) → ((l : ℕ) → l < length logs → (log_at logs l).format ≡ 2) → Second logs
-all_second [] each = tt
-all_second (l ∷ ls) each = (each 0 (omega arith), all_second ls (λ n lt. each (suc n) (omega (arith, lt))))
+  used_ready : (l : ℕ) → l < count → IsReadyLog (log_at old (head + l)) (items_at found (head + l))
+  used_ready l lt = ready_at before old found all (head + l) (omega (arith, lt, within))
 
--- a log that is made ready, or whose upgrade failed, or that is as it was
-abbrev Handled : LogState → LogState → List LogItem → Type 0
-Handled l k f = IsMadeReady l k f ⊎ (IsNotMadeReady l k f ⊎ (k ≡ l))
+  -- one that is as it was
+  same_on : (d : ℕ) → d < 4 → log_at new d ≡ log_at old d → IsFoundOn (device_at before d) (as_device (log_at new d)) (items_at found d)
+  same_on d lt same = subst (λ (x : LogState). IsFoundOn (device_at before d) (as_device x) (items_at found d)) (sym same) (found_at before old found all d lt)
 
--- all logs are open and of format 2
-pub record AllReady (before after : List Device) (logs : List LogState) (found : List (List LogItem)) : Type 0 where
-  pub begun : AreBegunOn before after found
-  pub ready : AllZip IsReadyLog logs found
-  pub second : Second logs
-  pub recent : HoldNoOld (length found) before
-  pub handled : AllZip IsHandled before after
+  same_opened : (d : ℕ) → d < 4 → log_at new d ≡ log_at old d → IsOpened (device_at before d) (device_at (map as_device new) d)
+  same_opened d lt same =
+      on_device (λ (a : Device). IsOpened (device_at before d) a) new d (opened_on (device_at before d) (as_device (log_at new d)) (items_at found d) (same_on d lt same))
 
--- ---- all of them
+  all_handled : ((l : ℕ) → l < count → IsHandled (device_at before (head + l)) (as_device (log_at new (head + l)))) → ((d : ℕ) → ¬ IsOnSide head count d → log_at new d ≡ log_at old d)
+      → AllZip IsHandled before (map as_device new)
+  all_handled used aside = zip_four IsHandled before new (all_whole before old found all) (many ∙ all.many)
+      (each_device (λ (d : ℕ). IsHandled (device_at before d) (as_device (log_at new d))) head count used
+      (λ d lt not. handled_on (device_at before d) (as_device (log_at new d)) (items_at found d) (same_on d lt (aside d not))))
 
-module _ (laws : ReadyLaws) where
-  -- where what is listed for a log is said by what is found in it
-  pub all_begun : (listed : List LogItem → List LogItem) (before others : List Device) (old new : List LogState) (found : List (List LogItem)) → AreFound before (with_logs old others) found
-      → AllZip IsReadyLog old found → EachLog (λ l k f. IsMadeReady l k (listed f)) old new found → Second new → AreBegunOn before (with_logs new others) found
-  all_begun listed before others [] [] [] are ready made second = are
-  all_begun listed before others [] (k ∷ ks) fs are ready made second = absurd (none fs made)
-    where
-      none : (xs : List (List LogItem)) → EachLog (λ l k f. IsMadeReady l k (listed f)) [] (k ∷ ks) xs → ⊥
-      none [] m = m
-      none (x ∷ xs) m = m
-  all_begun listed before others [] [] (f ∷ fs) are ready made second = absurd made
-  all_begun listed before others (l ∷ ls) new [] are ready made second = absurd ready
-  all_begun listed before others (l ∷ ls) [] (f ∷ fs) are ready made second = absurd made
-  all_begun listed [] others (l ∷ ls) (k ∷ ks) (f ∷ fs) are ready made second = absurd are
-  all_begun listed (b ∷ bs) others (l ∷ ls) (k ∷ ks) (f ∷ fs) are ready made second =
-      (begun_on laws b l k f are.0 ready.0 (listed f) made.0 second.0, all_begun listed bs others ls ks fs are.1 ready.1 made.1 second.1)
+  -- ---- one of those in use that is made ready
 
-  pub all_ready : (before others : List Device) (old new : List LogState) (found : List (List LogItem)) → AreFound before (with_logs old others) found → AllZip IsReadyLog old found
-      → EachLog IsMadeReady old new found → AllZip IsReadyLog new found
-  all_ready before others [] [] [] are ready made = tt
-  all_ready before others [] (k ∷ ks) [] are ready made = absurd made
-  all_ready before others [] new (f ∷ fs) are ready made = absurd ready
-  all_ready before others (l ∷ ls) new [] are ready made = absurd ready
-  all_ready before others (l ∷ ls) [] (f ∷ fs) are ready made = absurd made
-  all_ready [] others (l ∷ ls) (k ∷ ks) (f ∷ fs) are ready made = absurd are
-  all_ready (b ∷ bs) others (l ∷ ls) (k ∷ ks) (f ∷ fs) are ready made = (still_ready laws b l k f are.0 ready.0 f made.0, all_ready bs others ls ks fs are.1 ready.1 made.1)
+  module _ (l : ℕ) (lt : l < count) (made : IsMadeReady (log_at old (head + l)) (log_at new (head + l)) (items_at found (head + l))) where
+    made_handled : IsHandled (device_at before (head + l)) (as_device (log_at new (head + l)))
+    made_handled = handled laws (device_at before (head + l)) (log_at old (head + l)) (log_at new (head + l)) (items_at found (head + l)) (used_at l lt) (used_ready l lt) made
+
+    made_prepared : IsDevicePrepared (device_at before (head + l)) (device_at (map as_device new) (head + l))
+    made_prepared = on_device (λ (a : Device). IsDevicePrepared (device_at before (head + l)) a) new (head + l)
+        (prepared laws (device_at before (head + l)) (log_at old (head + l)) (log_at new (head + l)) (items_at found (head + l)) (used_at l lt) (used_ready l lt) made)
 
   -- of the first of them that are of format 2, so many
-  pub all_no_old : (n : ℕ) (before others : List Device) (old new : List LogState) (found : List (List LogItem)) → n ≤ length found → AreFound before (with_logs old others) found → AllZip IsReadyLog old found
-      → EachLog IsMadeReady old new found → ((l : ℕ) → l < n → (log_at new l).format ≡ 2) → HoldNoOld n before
-  all_no_old zero before others old new found le are ready made second = tt
-  all_no_old (suc n) before others old new [] le are ready made second = absurd (omega (arith, le))
-  all_no_old (suc n) before others [] new (f ∷ fs) le are ready made second = absurd ready
-  all_no_old (suc n) before others (l ∷ ls) [] (f ∷ fs) le are ready made second = absurd made
-  all_no_old (suc n) [] others (l ∷ ls) (k ∷ ks) (f ∷ fs) le are ready made second = absurd are
-  all_no_old (suc n) (b ∷ bs) others (l ∷ ls) (k ∷ ks) (f ∷ fs) le are ready made second =
-      (no_old laws b l k f are.0 ready.0 made.0 (second 0 (omega arith)), all_no_old n bs others ls ks fs (omega (arith, le)) are.1 ready.1 made.1 (λ i lt. second (suc i) (omega (arith, lt))))
+  none_old : (n : ℕ) → n ≤ count → ((l : ℕ) → l < n → IsMadeReady (log_at old (head + l)) (log_at new (head + l)) (items_at found (head + l))) → ((l : ℕ) → l < n → (log_at new (head + l)).format ≡ 2)
+      → HoldNoOld head n before
+  none_old n few made second = λ l lt.
+      let here : l < count = omega (arith, lt, few) in
+      no_old laws (device_at before (head + l)) (log_at old (head + l)) (log_at new (head + l)) (items_at found (head + l)) (used_at l here) (used_ready l here) (made l lt) (second l lt)
 
-  old_at : (n : ℕ) (before others : List Device) (old new : List LogState) (found : List (List LogItem)) → n < length found → AreFound before (with_logs old others) found → AllZip IsReadyLog old found
-      → EachLog IsMadeReady old new found → (log_at new n).format ≡ 1 → HoldsOld (device_at before n)
-  old_at n before others old new [] lt are ready made one = absurd (omega (arith, lt))
-  old_at n before others [] new (f ∷ fs) lt are ready made one = absurd ready
-  old_at n before others (l ∷ ls) [] (f ∷ fs) lt are ready made one = absurd made
-  old_at n [] others (l ∷ ls) (k ∷ ks) (f ∷ fs) lt are ready made one = absurd are
-  old_at zero (b ∷ bs) others (l ∷ ls) (k ∷ ks) (f ∷ fs) lt are ready made one = is_old laws b l k f are.0 ready.0 made.0 one
-  old_at (suc n) (b ∷ bs) others (l ∷ ls) (k ∷ ks) (f ∷ fs) lt are ready made one = old_at n bs others ls ks fs (omega (arith, lt)) are.1 ready.1 made.1 one
-
-  -- the devices of the first logs that are made ready, so many
-  all_prepared : (n : ℕ) (before others : List Device) (old new : List LogState) (found : List (List LogItem)) → n ≤ length found → AreFound before (with_logs old others) found → AllZip IsReadyLog old found
-      → length new ≡ length old → ((l : ℕ) → l < n → IsMadeReady (log_at old l) (log_at new l) (items_at found l)) → AllZip IsDevicePrepared (take n before) (take n (with_logs new others))
-  all_prepared zero before others old new found le are ready many made = tt
-  all_prepared (suc n) before others old new [] le are ready many made = absurd (omega (arith, le))
-  all_prepared (suc n) before others [] new (f ∷ fs) le are ready many made = absurd ready
-  all_prepared (suc n) before others (l ∷ ls) [] (f ∷ fs) le are ready many made = absurd (omega (arith, many))
-  all_prepared (suc n) [] others (l ∷ ls) (k ∷ ks) (f ∷ fs) le are ready many made = absurd are
-  all_prepared (suc n) (b ∷ bs) others (l ∷ ls) (k ∷ ks) (f ∷ fs) le are ready many made = (
-    prepared laws b l k f are.0 ready.0 (made 0 (omega arith)),
-    all_prepared n bs others ls ks fs (omega (arith, le)) are.1 ready.1 (omega (arith, many)) (λ i lt. made (suc i) (omega (arith, lt))),
-  )
-
-  all_handled : (before others : List Device) (old new : List LogState) (found : List (List LogItem)) → AreFound before (with_logs old others) found → AllZip IsReadyLog old found
-      → EachLog Handled old new found → AllZip IsHandled before (with_logs new others)
-  all_handled before others [] [] [] are ready went = subst (λ (ds : List Device). AllZip IsHandled before ds) (sym are) (same before)
-    where
-      same : (ds : List Device) → AllZip IsHandled ds ds
-      same [] = tt
-      same (d ∷ ds) = (record { prepared = inl (inl refl); safe = (untouched d).safe }, same ds)
-  all_handled before others [] (k ∷ ks) [] are ready went = absurd went
-  all_handled before others [] new (f ∷ fs) are ready went = absurd ready
-  all_handled before others (l ∷ ls) new [] are ready went = absurd ready
-  all_handled before others (l ∷ ls) [] (f ∷ fs) are ready went = absurd went
-  all_handled [] others (l ∷ ls) (k ∷ ks) (f ∷ fs) are ready went = absurd are
-  all_handled (b ∷ bs) others (l ∷ ls) (k ∷ ks) (f ∷ fs) are ready went = (by went.0, all_handled bs others ls ks fs are.1 ready.1 went.1)
-    where
-      by : Handled l k f → IsHandled b (as_device k)
-      by (inl made) = handled laws b l k f are.0 ready.0 made
-      by (inr (inl not)) = handled_failed laws b l k f are.0 ready.0 not
-      by (inr (inr same)) =
-          subst (λ (x : LogState). IsHandled b (as_device x)) (sym same) (record { prepared = inl (inr (inl (are.0.opened.0, f, are.0.opened.1))); safe = are.0.safe })
-
-  pub rest_same : (before others : List Device) (old new : List LogState) (found : List (List LogItem)) → AreFound before (with_logs old others) found → AllZip IsReadyLog old found → length new ≡ length old
-      → drop (length found) (with_logs new others) ≡ drop (length found) before
-  rest_same before others [] [] [] are ready many = are
-  rest_same before others [] (k ∷ ks) found are ready many = absurd (omega (arith, many))
-  rest_same before others [] [] (f ∷ fs) are ready many = absurd ready
-  rest_same before others (l ∷ ls) new [] are ready many = absurd ready
-  rest_same before others (l ∷ ls) [] (f ∷ fs) are ready many = absurd (omega (arith, many))
-  rest_same [] others (l ∷ ls) (k ∷ ks) (f ∷ fs) are ready many = absurd are
-  rest_same (b ∷ bs) others (l ∷ ls) (k ∷ ks) (f ∷ fs) are ready many = rest_same bs others ls ks fs are.1 ready.1 (omega (arith, many))
+  pub are_ready : AreAllReady head count old new found → AllReady head count before new found
+  are_ready is = record {
+    begun = λ l lt. begun_on laws (device_at before (head + l)) (log_at old (head + l)) (log_at new (head + l)) (items_at found (head + l)) (used_at l lt) (used_ready l lt)
+        (items_at found (head + l)) (is.all.below l lt) (is.second l lt);
+    ready = λ l lt. still_ready laws (device_at before (head + l)) (log_at old (head + l)) (log_at new (head + l)) (items_at found (head + l)) (used_at l lt) (used_ready l lt)
+        (items_at found (head + l)) (is.all.below l lt);
+    second = is.second;
+    recent = none_old count (omega arith) is.all.below is.second;
+    many = many ∙ all.many;
+    found_on = λ d lt not. same_on d lt (is.all.others d not);
+    found_ready = λ d lt not. subst (λ (x : LogState). IsReadyLog x (items_at found d)) (sym (is.all.others d not)) (ready_at before old found all d lt);
+    handled = all_handled (λ l lt. made_handled l lt (is.all.below l lt)) is.all.others;
+  }
 
   -- ---- one is still of format 1
 
-  pub left_old : (before others : List Device) (old new : List LogState) (found : List (List LogItem)) (n : ℕ) → length found ≡ length old → AreFound before (with_logs old others) found
-      → AllZip IsReadyLog old found → IsLeftOld n old new found → HasOldFormat (length found) before (with_logs new others) n × AllZip IsHandled before (with_logs new others)
-  left_old before others old new found n as_many are ready left =
-      let made = each_log IsMadeReady old new found left.all.many as_many left.all.below in (
-        record {
-          asked = omega (arith, left.asked, as_many);
-          old = old_at n before others old new found (omega (arith, left.asked, as_many)) are ready made left.old_format;
-          least = all_no_old n before others old new found (omega (arith, left.asked, as_many)) are ready made left.least;
-          prepared = all_prepared (length found) before others old new found (omega arith) are ready left.all.many (λ l lt. left.all.below l (omega (arith, lt, as_many)));
-          others = rest_same before others old new found are ready left.all.many;
-        },
-        all_handled before others old new found are ready (each_log Handled old new found left.all.many as_many (λ l lt. inl (left.all.below l lt))),
-      )
+  pub left_old : (generation n : ℕ) → AreUsed count before head count generation → IsLeftOld head count n old new found
+      → HasOldFormat count before (map as_device new) (head + n) × AllZip IsHandled before (map as_device new)
+  left_old generation n used left = (
+    record {
+      head = head;
+      generation = generation;
+      used = used;
+      number = n;
+      asked = left.asked;
+      is = refl;
+      old = is_old laws (device_at before (head + n)) (log_at old (head + n)) (log_at new (head + n)) (items_at found (head + n)) (used_at n left.asked) (used_ready n left.asked)
+          (left.all.below n left.asked) left.old_format;
+      least = none_old n (omega (arith, left.asked)) (λ l lt. left.all.below l (omega (arith, lt, left.asked))) left.least;
+      prepared = λ l lt. made_prepared l lt (left.all.below l lt);
+      aside = λ d lt not. same_opened d lt (left.all.others d not);
+    },
+    all_handled (λ l lt. made_handled l lt (left.all.below l lt)) left.all.others,
+  )
 
   -- ---- the upgrade of one failed
 
-  pub above_opened : (n : ℕ) (before others : List Device) (old new : List LogState) (found : List (List LogItem)) → n < length found → AreFound before (with_logs old others) found → AllZip IsReadyLog old found
-      → length new ≡ length old → ((l : ℕ) → n < l → log_at new l ≡ log_at old l)
-      → AllZip IsOpened (drop (n + 1) (take (length found) before)) (drop (n + 1) (take (length found) (with_logs new others)))
-  above_opened n before others old new [] lt are ready many above = absurd (omega (arith, lt))
-  above_opened n before others [] new (f ∷ fs) lt are ready many above = absurd ready
-  above_opened n before others (l ∷ ls) [] (f ∷ fs) lt are ready many above = absurd (omega (arith, many))
-  above_opened n [] others (l ∷ ls) (k ∷ ks) (f ∷ fs) lt are ready many above = absurd are
-  above_opened zero (b ∷ bs) others (l ∷ ls) (k ∷ ks) (f ∷ fs) lt are ready many above =
-      let same : ks ≡ ls = same_logs ks ls (omega (arith, many)) (λ i. above (suc i) (omega arith)) in
-      subst (λ (xs : List LogState). AllZip IsOpened (take (length fs) bs) (take (length fs) (with_logs xs others))) (sym same) (found_zip bs (with_logs ls others) fs are.1)
-  above_opened (suc n) (b ∷ bs) others (l ∷ ls) (k ∷ ks) (f ∷ fs) lt are ready many above =
-      let next : suc (n + 1) ≡ suc n + 1 = omega arith in
-      subst (λ (i : ℕ). AllZip IsOpened (drop i (take (length (f ∷ fs)) (b ∷ bs))) (drop i (take (length (f ∷ fs)) (with_logs (k ∷ ks) others)))) next
-      (above_opened n bs others ls ks fs (omega (arith, lt)) are.1 ready.1 (omega (arith, many)) (λ i more. above (suc i) (omega (arith, more))))
+  module _ (n : ℕ) (stopped : IsStopped head count n old new found) where
+    failed_handled : IsHandled (device_at before (head + n)) (as_device (log_at new (head + n)))
+    failed_handled =
+        handled_failed laws (device_at before (head + n)) (log_at old (head + n)) (log_at new (head + n)) (items_at found (head + n)) (used_at n stopped.asked) (used_ready n stopped.asked) stopped.failed
 
-  failed_at : (n : ℕ) (before others : List Device) (old new : List LogState) (found : List (List LogItem)) → n < length found → AreFound before (with_logs old others) found → AllZip IsReadyLog old found
-      → length new ≡ length old → IsNotMadeReady (log_at old n) (log_at new n) (items_at found n)
-      → IsUpgradeCutOff (device_at before n) (device_at (with_logs new others) n) × Rose (device_at before n).faults (device_at (with_logs new others) n).faults
-  failed_at n before others old new [] lt are ready many not = absurd (omega (arith, lt))
-  failed_at n before others [] new (f ∷ fs) lt are ready many not = absurd ready
-  failed_at n before others (l ∷ ls) [] (f ∷ fs) lt are ready many not = absurd (omega (arith, many))
-  failed_at n [] others (l ∷ ls) (k ∷ ks) (f ∷ fs) lt are ready many not = absurd are
-  failed_at zero (b ∷ bs) others (l ∷ ls) (k ∷ ks) (f ∷ fs) lt are ready many not = (cut_off laws b l k f are.0 ready.0 not, has_risen laws b l k f are.0 ready.0 f not)
-  failed_at (suc n) (b ∷ bs) others (l ∷ ls) (k ∷ ks) (f ∷ fs) lt are ready many not = failed_at n bs others ls ks fs (omega (arith, lt)) are.1 ready.1 (omega (arith, many)) not
+    went : (l : ℕ) → l < count → (l < n) ⊎ ((l ≡ n) ⊎ (n < l)) → IsHandled (device_at before (head + l)) (as_device (log_at new (head + l)))
+    went l lt (inl low) = made_handled l lt (stopped.below l low)
+    went l lt (inr (inl same)) = subst (λ (i : ℕ). IsHandled (device_at before (head + i)) (as_device (log_at new (head + i)))) (sym same) failed_handled
+    went l lt (inr (inr gt)) =
+        handled_on (device_at before (head + l)) (as_device (log_at new (head + l))) (items_at found (head + l)) (same_on (head + l) (omega (arith, lt, within)) (stopped.others (head + l) (above_not head n l gt)))
 
-  went_at : (n l : ℕ) (old new : List LogState) (found : List (List LogItem)) → IsStopped n old new found → (l < n) ⊎ ((l ≡ n) ⊎ (n < l)) → Handled (log_at old l) (log_at new l) (items_at found l)
-  went_at n l old new found stopped (inl lt) = inl (stopped.below l lt)
-  went_at n l old new found stopped (inr (inl same)) =
-      inr (inl (subst (λ (i : ℕ). IsNotMadeReady (log_at old i) (log_at new i) (items_at found i)) (sym same) stopped.failed))
-  went_at n l old new found stopped (inr (inr gt)) = inr (inr (stopped.above l gt))
-
-  pub failed : (before others : List Device) (old new : List LogState) (found : List (List LogItem)) (n : ℕ) → length found ≡ length old → AreFound before (with_logs old others) found
-      → AllZip IsReadyLog old found → IsStopped n old new found
-      → (FailsUpgrade (length found) before (with_logs new others) n × Rose (device_at before n).faults (device_at (with_logs new others) n).faults) × AllZip IsHandled before (with_logs new others)
-  failed before others old new found n as_many are ready stopped =
-      let asked : n < length found = omega (arith, stopped.asked, as_many) in
-      let here = failed_at n before others old new found asked are ready stopped.many stopped.failed in (
-        (
-          record {
-            asked = asked;
-            cut_off = here.0;
-            below = all_prepared n before others old new found (omega (arith, asked)) are ready stopped.many stopped.below;
-            above = above_opened n before others old new found asked are ready stopped.many stopped.above;
-            others = rest_same before others old new found are ready stopped.many;
-          },
-          here.1,
-        ),
-        all_handled before others old new found are ready (each_log Handled old new found stopped.many as_many (λ l lt. went_at n l old new found stopped (three_ways l n))),
-      )
-
-  -- ---- as answers
-
-  pub not_ready : (count : ℕ) (before others : List Device) (old new : List LogState) (found : List (List LogItem)) (no : LogsNo) → length found ≡ count → length found ≡ length old
-      → AreFound before (with_logs old others) found → AllZip IsReadyLog old found → AreNotReady old new found no
-      → AreNotRead count before (with_logs new others) no × AllZip IsHandled before (with_logs new others)
-  not_ready count before others old new found (ending.Refused log offset cause.OldFormat) size as_many are ready why =
-      let is = left_old before others old new found log as_many are ready why.1 in
-      ((why.0, subst (λ (n : ℕ). HasOldFormat n before (with_logs new others) log) size is.0), is.1)
-  not_ready count before others old new found (ending.Refused log offset cause.NotALog) size as_many are ready why = absurd why
-  not_ready count before others old new found (ending.Refused log offset cause.Damage) size as_many are ready why = absurd why
-  not_ready count before others old new found (ending.Refused log offset cause.BadRecord) size as_many are ready why = absurd why
-  not_ready count before others old new found (ending.Refused log offset cause.Stray) size as_many are ready why = absurd why
-  not_ready count before others old new found (ending.Refused log offset cause.NoGenesis) size as_many are ready why = absurd why
-  not_ready count before others old new found (ending.Refused log offset cause.TwoGenesis) size as_many are ready why = absurd why
-  not_ready count before others old new found (ending.Refused log offset (cause.LogCount k f)) size as_many are ready why = absurd why
-  not_ready count before others old new found (ending.Refused log offset (cause.Range k)) size as_many are ready why = absurd why
-  not_ready count before others old new found (ending.Refused log offset (cause.Missing k)) size as_many are ready why = absurd why
-  not_ready count before others old new found (ending.Refused log offset (cause.Values k u v)) size as_many are ready why = absurd why
-  not_ready count before others old new found (ending.Refused log offset (cause.Spent n)) size as_many are ready why = absurd why
-  not_ready count before others old new found (ending.Refused log offset (cause.Differs w k t)) size as_many are ready why = absurd why
-  not_ready count before others old new found (ending.Device log) size as_many are ready why =
-      let is = failed before others old new found log as_many are ready why in
-      ((inr (subst (λ (n : ℕ). FailsUpgrade n before (with_logs new others) log) size is.0.0), is.0.1), is.1)
-  not_ready count before others old new found ending.Memory size as_many are ready why = absurd why
-
-  -- ---- all are ready
-
-  pub are_ready : (before others : List Device) (old new : List LogState) (found : List (List LogItem)) → length found ≡ length old → AreFound before (with_logs old others) found
-      → AllZip IsReadyLog old found → AreAllReady old new found → AllReady before (with_logs new others) new found
-  are_ready before others old new found as_many are ready is =
-      let made = each_log IsMadeReady old new found is.all.many as_many is.all.below in
-      let second : Second new = all_second new (λ l lt. is.second l (omega (arith, lt, is.all.many))) in
+    pub failed : (generation : ℕ) → AreUsed count before head count generation → FailsUpgrade count before (map as_device new) (head + n) × AllZip IsHandled before (map as_device new)
+    failed generation used = (
       record {
-        begun = all_begun (λ f. f) before others old new found are ready made second;
-        ready = all_ready before others old new found are ready made;
-        second = second;
-        recent = all_no_old (length found) before others old new found (omega arith) are ready made (λ l lt. is.second l (omega (arith, lt, as_many)));
-        handled = all_handled before others old new found are ready (each_log Handled old new found is.all.many as_many (λ l lt. inl (is.all.below l lt)));
-      }
-
--- ---- what is begun, by the devices
-
-begun_zip : (before after : List Device) (found : List (List LogItem)) → AreBegunOn before after found → AllZip IsBegun (take (length found) before) (take (length found) after)
-begun_zip before after [] are = tt
-begun_zip [] after (i ∷ is) are = absurd are
-begun_zip (b ∷ bs) [] (i ∷ is) are = absurd are
-begun_zip (b ∷ bs) (a ∷ more) (i ∷ is) are = ((are.0.begun.0, i, are.0.begun.1), begun_zip bs more is are.1)
-
-begun_rest : (before after : List Device) (found : List (List LogItem)) → AreBegunOn before after found → drop (length found) after ≡ drop (length found) before
-begun_rest before after [] are = are
-begun_rest [] after (i ∷ is) are = absurd are
-begun_rest (b ∷ bs) [] (i ∷ is) are = absurd are
-begun_rest (b ∷ bs) (a ∷ more) (i ∷ is) are = begun_rest bs more is are.1
-
-pub begun_all : (before after : List Device) (found : List (List LogItem)) → AreBegunOn before after found → AreBegun (length found) before after
-begun_all before after found are = record { begun = begun_zip before after found are; others = begun_rest before after found are }
+        head = head;
+        generation = generation;
+        used = used;
+        number = n;
+        asked = stopped.asked;
+        is = refl;
+        cut_off = on_device (λ (a : Device). IsUpgradeCutOff (device_at before (head + n)) a) new (head + n)
+            (cut_off laws (device_at before (head + n)) (log_at old (head + n)) (log_at new (head + n)) (items_at found (head + n)) (used_at n stopped.asked) (used_ready n stopped.asked) stopped.failed);
+        rose = on_device (λ (a : Device). Rose (device_at before (head + n)).faults a.faults) new (head + n)
+            (has_risen laws (device_at before (head + n)) (log_at old (head + n)) (log_at new (head + n)) (items_at found (head + n)) (used_at n stopped.asked) (used_ready n stopped.asked)
+            (items_at found (head + n)) stopped.failed);
+        below = λ l lt. made_prepared l (omega (arith, lt, stopped.asked)) (stopped.below l lt);
+        above = λ l gt lt. same_opened (head + l) (omega (arith, lt, within)) (stopped.others (head + l) (above_not head n l gt));
+        aside = λ d lt not. same_opened d lt (stopped.others d (aside_not head n count d stopped.asked not));
+      },
+      all_handled (λ l lt. went l lt (three_ways l n)) (λ d not. stopped.others d (aside_not head n count d stopped.asked not)),
+    )

@@ -64,9 +64,9 @@ first_upgrades (Some h) opened new end items format is was one adds =
 
 -- ---- items
 
-opened_items : ReadyLaws → (h : DeviceHistory) (new : Option DeviceHistory) (end : ℕ) (items : List LogItem) → Opened (Some h) new end items → IsLog (content h) (bytes_of items)
-opened_items laws h new end items opened = elim (cases_lt NEW_LOG_SIZE (length (content h))) [
-  | inl long ↦ inr (long, (end, laws.placed (content h) end items (opened.read long).0))
+pub opened_items : PlacedIsLogAt → (h : DeviceHistory) (new : Option DeviceHistory) (end : ℕ) (items : List LogItem) → Opened (Some h) new end items → IsLog (content h) (bytes_of items)
+opened_items placed h new end items opened = elim (cases_lt NEW_LOG_SIZE (length (content h))) [
+  | inl long ↦ inr (long, (end, placed (content h) end items (opened.read long).0))
   | inr short ↦ inl (short, ap (λ (l : List LogItem). bytes_of l) (opened.made short).1)
 ]
 
@@ -81,10 +81,10 @@ second_no_old laws (Some h) new end items format faults opened has two = λ old.
     let was : format ≡ format_in (content h) = format_was laws.adds laws.format (Some h) new end items format opened has in
     omega (arith, was, two, old.1.1)
 
-empty_no_old : ReadyLaws → (told new : Option DeviceHistory) (end : ℕ) (items : List LogItem) (faults : ℕ) → Opened told new end items → items ≡ [] → HoldsNoOld (record { told = told; faults = faults })
+pub empty_no_old : ReadyLaws → (told new : Option DeviceHistory) (end : ℕ) (items : List LogItem) (faults : ℕ) → Opened told new end items → items ≡ [] → HoldsNoOld (record { told = told; faults = faults })
 empty_no_old laws None new end items faults opened none = tt
 empty_no_old laws (Some h) new end items faults opened none = λ old.
-    let here : IsLog (content h) [] = subst (λ (l : List LogItem). IsLog (content h) (bytes_of l)) none (opened_items laws h new end items opened) in
+    let here : IsLog (content h) [] = subst (λ (l : List LogItem). IsLog (content h) (bytes_of l)) none (opened_items laws.placed h new end items opened) in
     old.2 (laws.lists (content h) old.0 [] old.1.0 here)
 
 old_there : ReadyLaws → (told new : Option DeviceHistory) (end : ℕ) (items : List LogItem) (format : ℕ) (faults : ℕ) → Opened told new end items → HasFormat new format → format ≡ 1 → items ≢ []
@@ -92,7 +92,7 @@ old_there : ReadyLaws → (told new : Option DeviceHistory) (end : ℕ) (items :
 old_there laws None new end items format faults opened has one some = tt
 old_there laws (Some h) new end items format faults opened has one some =
     let was : format ≡ format_in (content h) = format_was laws.adds laws.format (Some h) new end items format opened has in
-    (bytes_of items, (opened_items laws h new end items opened, sym one ∙ was), some_bytes items some)
+    (bytes_of items, (opened_items laws.placed h new end items opened, sym one ∙ was), some_bytes items some)
 
 -- ---- what is made of a log
 

@@ -1,14 +1,15 @@
 -- Devices as contracts see them.
-use Rattle.std.specs.Prelude.{◌≡◌, ◌≢◌, ℕ, ◌+◌, ◌<◌, ◌⊎◌, List, [], ◌∷◌, ◌++◌, map, take, drop, Option, None, IfSome, slice_index_or}
-use Rattle.std.specs.List.{AllByRecursion, AllZip}
+use Rattle.std.specs.Prelude.{◌≡◌, ◌≢◌, ℕ, ◌+◌, ◌<◌, ◌≤◌, ◌⊎◌, List, [], ◌∷◌, ◌++◌, map, take, drop, Option, None, IfSome, slice_index_or}
+use Rattle.std.specs.List.{AllZip}
 use Rattle.snap_outside.specs.declared.devices.DevOp.{DevOp}
 use Rattle.snap_outside.specs.Disk.{DeviceHistory, content, AddsAll, AddsUpToFault}
-use Rattle.gate_log.specs.Appends.{upgrade_ops}
+use Rattle.gate_log.specs.Appends.{clear_ops, upgrade_ops}
 use Rattle.gate_log.specs.Bytes.{IsLogOf, format_in}
 use Rattle.gate_log.specs.Opened.{Opened, MayBeMade, Refused}
 use Rattle.gate_log.specs.declared.opens.OpenNo.TheVariants as refusal
 use Rattle.gate_log.specs.declared.logs.LogItem.{LogItem}
 use Rattle.gate_log.specs.State.{LogState}
+use Rattle.log_compact.specs.Compacting.{IsOnSide, other_side}
 use Rattle.record_log.specs.Growth.{upgrading_of}
 
 -- a device: its history, where it tells it, and its faults
@@ -27,6 +28,10 @@ as_device log = record { told = log.told; faults = log.faults }
 -- all devices, where those of these logs are open and the others are not
 abbrev pub devices_now : {D : Type 0} → (D → Option DeviceHistory) → (D → ℕ) → List LogState → List D → List Device
 devices_now told faults logs others = map as_device logs ++ devices_of told faults others
+
+-- all devices, where those of these logs are open and stand behind so many of the others
+abbrev pub devices_with : {D : Type 0} → (D → Option DeviceHistory) → (D → ℕ) → ℕ → List LogState → List D → List Device
+devices_with told faults head logs others = take head (devices_of told faults others) ++ (map as_device logs ++ drop head (devices_of told faults others))
 
 -- the device with this number, from 0 on; past the last one a device that tells nothing
 abbrev pub device_at : List Device → ℕ → Device
@@ -75,9 +80,9 @@ HoldsOld d = IfSome d.told (λ h. IsOld (content h))
 abbrev pub HoldsNoOld : Device → Type 0
 HoldsNoOld d = IfSome d.told (λ h. ¬ IsOld (content h))
 
--- none of the first devices, so many, holds a log of format 1 with an item
-abbrev pub HoldNoOld : ℕ → List Device → Type 0
-HoldNoOld count before = AllByRecursion HoldsNoOld (take count before)
+-- of so many devices from the head on none holds a log of format 1 with an item
+abbrev pub HoldNoOld : ℕ → ℕ → List Device → Type 0
+HoldNoOld head count before = (l : ℕ) → l < count → HoldsNoOld (device_at before (head + l))
 
 -- A device was opened, and its log made one of format 2, where it was of format 1.
 abbrev pub DeviceBegun : Option DeviceHistory → Option DeviceHistory → ℕ → List LogItem → Type 0
@@ -87,10 +92,10 @@ DeviceBegun old new end found = (opened : Option DeviceHistory) × Opened old op
 abbrev pub IsBegun : Device → Device → Type 0
 IsBegun before after = (end : ℕ) × (found : List LogItem) × DeviceBegun before.told after.told end found
 
--- So many devices are opened, from the first one on, and their logs made ones of format 2. The others got no call.
-pub record AreBegun (count : ℕ) (before after : List Device) : Type 0 where
-  pub begun : AllZip IsBegun (take count before) (take count after)
-  pub others : drop count after ≡ drop count before
+-- The logs in use, so many from the head on, are opened and of format 2 now. The others are only opened.
+pub record AreBegun (head count : ℕ) (before after : List Device) : Type 0 where
+  pub begun : (l : ℕ) → l < count → IsBegun (device_at before (head + l)) (device_at after (head + l))
+  pub aside : (d : ℕ) → d < 4 → ¬ IsOnSide head count d → IsOpened (device_at before d) (device_at after d)
 
 -- what makes a log of format 1 one of format 2, where it has no item; and nothing where it has some
 abbrev pub preparing_of : Option DeviceHistory → List LogItem → List DevOp
@@ -113,3 +118,24 @@ IsUpgradeCutOff before after =
 -- A device got no call, or those of opening and then of an upgrade, as far as it did not fail.
 abbrev pub IsPreparedAtMost : Device → Device → Type 0
 IsPreparedAtMost before after = IsOpenedAtMost before after ⊎ (IsDevicePrepared before after ⊎ IsUpgradeCutOff before after)
+
+-- ---- the other side
+
+-- Where there is a checkpoint, and the logs in use are two at most, the logs of the other side are to be cleared.
+pub record IsToBeCleared (head count generation d : ℕ) : Type 0 where
+  pub checkpoint : 1 ≤ generation
+  pub few : count ≤ 2
+  pub side : IsOnSide (other_side head count) count d
+
+-- a device was opened, and its log cleared
+abbrev pub IsEmptied : Device → Device → Type 0
+IsEmptied before after = (end : ℕ) × (found : List LogItem) × (opened : Option DeviceHistory) × Opened before.told opened end found × AddsAll opened after.told (clear_ops end)
+
+-- a device was opened, and the clearing of its log met a fault
+abbrev pub IsEmptyingCutOff : Device → Device → Type 0
+IsEmptyingCutOff before after = (end : ℕ) × (found : List LogItem) × (opened : Option DeviceHistory) × Opened before.told opened end found × AddsUpToFault opened after.told (clear_ops end)
+
+-- The devices that are not in use are opened, and those that are to be cleared are cleared then.
+pub record AreAside (head count generation : ℕ) (before after : List Device) : Type 0 where
+  pub cleared : (d : ℕ) → d < 4 → IsToBeCleared head count generation d → IsEmptied (device_at before d) (device_at after d)
+  pub kept : (d : ℕ) → d < 4 → ¬ IsOnSide head count d → ¬ IsToBeCleared head count generation d → IsOpened (device_at before d) (device_at after d)

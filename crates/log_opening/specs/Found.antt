@@ -1,5 +1,5 @@
 -- What opening devices one after the other finds, and what decoding finds then.
-use Rattle.std.specs.Prelude.{◌≡◌, false, IfSome, ℕ, ◌<◌, ◌≤◌, ◌⊎◌, List, [], ◌∷◌, ◌++◌, length, take, slice_index_or, slice_set, ⊤}
+use Rattle.std.specs.Prelude.{◌≡◌, false, IfSome, ℕ, ◌+◌, ◌<◌, ◌≤◌, ◌⊎◌, List, [], ◌∷◌, length, map, take, slice_index_or, slice_set, ⊤}
 use Rattle.std.specs.List.{AllZip}
 use Rattle.snap_outside.specs.Causes.{Rose}
 use Rattle.gate_log.specs.declared.limits.TheConstants.{FARTHEST_END}
@@ -15,6 +15,7 @@ use Rattle.record_log.specs.Records.{AreItemsOf, IsFirstBadIn, KeepsRecords}
 use Rattle.snap_recover.specs.declared.causes.LogCause.{LogCause}
 use Rattle.snap_recover.specs.declared.causes.LogCause.TheVariants as cause
 use Rattle.snap_recover.specs.declared.refusals.RecoverNo.TheVariants as recover
+use Rattle.log_compact.specs.declared.refusals.FoldNo.{FoldNo}
 use Rattle.log_compact.specs.declared.refusals.FoldNo.TheVariants as fold
 use Rattle.log_compact.specs.Refusals.{IsNotFolded}
 use Rattle.log_opening.specs.declared.refusals.LogsNo.{LogsNo}
@@ -77,12 +78,11 @@ AreFound [] after (items ∷ found) = ⊥
 AreFound (b ∷ before) [] (items ∷ found) = ⊥
 AreFound (b ∷ before) (a ∷ after) (items ∷ found) = IsFoundOn b a items × AreFound before after found
 
--- These items were found on the first devices, a list on each, and their logs are of format 2 now. The others got no call.
-abbrev pub AreBegunOn : List devices.Device → List devices.Device → List (List LogItem) → Type 0
-AreBegunOn before after [] = after ≡ before
-AreBegunOn [] after (items ∷ found) = ⊥
-AreBegunOn (b ∷ before) [] (items ∷ found) = ⊥
-AreBegunOn (b ∷ before) (a ∷ after) (items ∷ found) = IsBegunOn b a items × AreBegunOn before after found
+-- All four devices are open, these items were found on them, a list on each, and the logs are ready.
+pub record AreAllFound (before : List devices.Device) (logs : List LogState) (found : List (List LogItem)) : Type 0 where
+  pub many : length logs ≡ 4
+  pub are : AreFound before (map devices.as_device logs) found
+  pub ready : AllZip IsReadyLog logs found
 
 -- The devices below this one were opened, and this one was not, for this cause.
 pub record IsStoppedAt (log : ℕ) (before after : List devices.Device) (no : OpenNo) : Type 0 where
@@ -120,14 +120,14 @@ IsNoReading items log (ending.Refused l offset c) = ⊥
 IsNoReading items log (ending.Device l) = ⊥
 IsNoReading items log ending.Memory = ⊤
 
--- why the items of the logs behind the first ones, which have these records, are no records
-abbrev pub IsNoDecoding : List (List LogItem) → List (List Record) → LogsNo → Type 0
-IsNoDecoding found known (ending.Refused log offset cause.BadRecord) =
-    (more : List (List Record)) × (log ≡ length (known ++ more)) × (log < length found) × AllZip AreItemsOf (take log found) (known ++ more)
-    × IsFirstBadIn (slice_index_or found log []) offset
-IsNoDecoding found known (ending.Refused log offset c) = ⊥
-IsNoDecoding found known (ending.Device log) = ⊥
-IsNoDecoding found known ending.Memory = ⊤
+-- why the items of the logs in use, the first of which lies on this device, are no records
+abbrev pub IsNoDecoding : ℕ → List (List LogItem) → LogsNo → Type 0
+IsNoDecoding head found (ending.Refused log offset cause.BadRecord) =
+    (below : List (List Record)) × (log ≡ head + length below) × (length below < length found)
+    × AllZip AreItemsOf (take (length below) found) below × IsFirstBadIn (slice_index_or found (length below) []) offset
+IsNoDecoding head found (ending.Refused log offset c) = ⊥
+IsNoDecoding head found (ending.Device log) = ⊥
+IsNoDecoding head found ending.Memory = ⊤
 
 -- why the records of all logs fold to nothing, and the log that is named
 abbrev pub IsFoldCause : List (List Record) → ℕ → LogCause → Type 0
@@ -145,8 +145,22 @@ IsFoldCause logs log (cause.Values k u v) = IsNotFolded logs (fold.Recover (reco
 IsFoldCause logs log (cause.Spent number) = ⊥
 IsFoldCause logs log (cause.Differs what kept text) = ⊥
 
--- why the records of all logs fold to nothing, as `LogsNo` tells it
-abbrev pub IsNoFold : List (List Record) → LogsNo → Type 0
-IsNoFold logs (ending.Refused log offset c) = (offset ≡ 0) × IsFoldCause logs log c
-IsNoFold logs (ending.Device log) = ⊥
-IsNoFold logs ending.Memory = ⊤
+-- the log in use that the answer names, and the first one where it names none
+abbrev pub log_named : FoldNo → ℕ
+log_named (fold.Stray log) = log
+log_named (fold.Range k log) = log
+log_named (fold.Recover recover.NoGenesis) = 0
+log_named (fold.Recover recover.TwoGenesis) = 0
+log_named (fold.Recover (recover.LogCount kept found)) = 0
+log_named (fold.Recover (recover.Range k log)) = log
+log_named (fold.Recover (recover.Missing k log)) = log
+log_named (fold.Recover (recover.Values k log u v)) = log
+log_named (fold.Recover recover.Memory) = 0
+log_named fold.Memory = 0
+
+-- Why the records of the logs in use, the first of which lies on this device, fold to nothing, as `LogsNo` tells it. The log is named
+-- by its device.
+abbrev pub IsNoFold : ℕ → List (List Record) → LogsNo → Type 0
+IsNoFold head lists (ending.Refused log offset c) = (offset ≡ 0) × ((number : ℕ) × (log ≡ head + number) × IsFoldCause lists number c)
+IsNoFold head lists (ending.Device log) = ⊥
+IsNoFold head lists ending.Memory = ⊤

@@ -1,83 +1,103 @@
--- What all logs hold together, and why they are refused.
-use Rattle.std.specs.Prelude.{◌≡◌, ℕ, ◌+◌, ◌<◌, ◌⊎◌, List, [], ◌∷◌, length, take, IfSome}
-use Rattle.std.specs.List.{AllByRecursion, AllZip}
+-- Which of the four logs of a call are in use, what these hold together, and why they are refused.
+use Rattle.std.specs.Prelude.{◌≡◌, ℕ, ◌+◌, ◌<◌, List, length, slice_index_or, [], Option, IfSome}
+use Rattle.std.specs.List.{AllByRecursion}
 use Rattle.snap_outside.specs.Causes.{Rose}
-use Rattle.snap_outside.specs.Disk.{content}
+use Rattle.snap_outside.specs.Disk.{DeviceHistory, content}
 use Rattle.gate_log.specs.declared.logs.LogItem.{LogItem}
+use Rattle.gate_log.specs.declared.opens.OpenNo.{OpenNo}
 use Rattle.gate_log.specs.declared.opens.OpenNo.TheVariants as refusal
 use Rattle.gate_log.specs.Opened.{Opened, Refused}
 use Rattle.txn_records.specs.declared.records.Record.{Record}
-use Rattle.txn_records.specs.declared.records.Record.TheVariants.{Genesis, BatchInfo, BatchComplete, BatchCommit, ActPrepare, ActCommit, BatchDone, ActDone, Checkpoint}
 use Rattle.txn_records.specs.Records.{IsRecord}
 use Rattle.record_log.specs.Records.{HoldsRecords, IsFirstBadIn}
 use Rattle.snap_recover.specs.declared.causes.LogCause.{LogCause}
 use Rattle.snap_recover.specs.declared.causes.LogCause.TheVariants as cause
+use Rattle.log_compact.specs.declared.folds.Folded.{Folded}
+use Rattle.log_compact.specs.Finding.{IsUsed}
+use Rattle.log_compact.specs.Fronts.{HoldsFront}
+use Rattle.log_compact.specs.Sets.{IsFolded}
 use Rattle.log_opening.specs.Found.{IsFoldCause}
 use Rattle.log_opening.specs.declared.refusals.LogsNo.{LogsNo}
 use Rattle.log_opening.specs.declared.refusals.LogsNo.TheVariants as ending
 use Rattle.log_opening.specs.Devices as devices
 
--- how many logs there are: what the first Genesis of log 0 says, or one
-abbrev pub logs_said : List Record → ℕ
-logs_said [] = 1
-logs_said (Genesis logs states ∷ rs) = logs
-logs_said (BatchInfo bid actors tids ∷ rs) = logs_said rs
-logs_said (BatchComplete bid actor state ∷ rs) = logs_said rs
-logs_said (BatchCommit bid ∷ rs) = logs_said rs
-logs_said (ActPrepare tid actor state ∷ rs) = logs_said rs
-logs_said (ActCommit tid m c actors ∷ rs) = logs_said rs
-logs_said (BatchDone bid values ∷ rs) = logs_said rs
-logs_said (ActDone tid m c value actors ∷ rs) = logs_said rs
-logs_said (Checkpoint generation next_tid next_bid next_c batches acts states ∷ rs) = logs_said rs
-
--- log 0 says how many logs there are, and there are so many
-abbrev pub IsSaid : List (List Record) → Type 0
-IsSaid logs = (first : List Record) × (others : List (List Record)) × (logs ≡ first ∷ others) × (length logs ≡ logs_said first)
-
 -- what a device holds, where it tells it
 abbrev pub DeviceHolds : devices.Device → List Record → Type 0
 DeviceHolds d rs = IfSome d.told (λ h. HoldsRecords (content h) rs)
 
--- these are the records of all logs
-abbrev pub AreGiven : List devices.Device → List (List Record) → Type 0
-AreGiven before logs =
-    (first : List Record) × (others : List (List Record)) × (logs ≡ first ∷ others) × (length logs ≡ logs_said first)
-    × AllByRecursion (AllByRecursion IsRecord) logs × AllZip DeviceHolds (take (length logs) before) logs
+-- the records of the log with this number, and none past the last one
+abbrev pub records_at : List (List Record) → ℕ → List Record
+records_at lists l = slice_index_or lists l []
 
--- the log is log 0, or one below the number that log 0 says
-abbrev pub IsLogAsked : List devices.Device → ℕ → Type 0
-IsLogAsked before log = (log ≡ 0) ⊎ ((first : List Record) × DeviceHolds (devices.device_at before 0) first × (log < logs_said first))
+-- the devices from the head on hold these records, each of them a list
+abbrev pub HoldLists : List devices.Device → ℕ → List (List Record) → Type 0
+HoldLists before head lists = (l : ℕ) → l < length lists → DeviceHolds (devices.device_at before (head + l)) (records_at lists l)
 
--- Log 0 is decoded when it alone is opened. The others are decoded in order, when all that log 0 says are opened.
-abbrev pub IsDecoded : List devices.Device → List devices.Device → ℕ → Type 0
-IsDecoded before after log =
-    ((log ≡ 0) × devices.AreOpened 1 before after)
-    ⊎ ((first : List Record) × (others : List (List Record)) × (log ≡ length others + 1) × AllZip DeviceHolds (take log before) (first ∷ others)
-    × (log < logs_said first) × devices.AreOpened (logs_said first) before after)
+-- So many logs from the head on are in use, by the records in front of what the four devices hold: those of the set; or, where there is
+-- none, this many from device 0 on.
+pub record AreUsed (many : ℕ) (before : List devices.Device) (head count generation : ℕ) : Type 0 where
+  pub fronts : ℕ → List Record
+  pub each : (d : ℕ) → d < 4 → IfSome (devices.device_at before d).told (λ h. HoldsFront (content h) (fronts d))
+  pub used : IsUsed fronts many head count generation
 
--- What this log holds is refused, for this cause: it was not opened, or not decoded; or the records of all fold to nothing.
+-- These are the records of the logs in use, log 0 of which lies on the head. Where there is no set it is one.
+pub record AreGiven (before : List devices.Device) (head : ℕ) (lists : List (List Record)) : Type 0 where
+  pub generation : ℕ
+  pub used : AreUsed 1 before head (length lists) generation
+  pub each : AllByRecursion (AllByRecursion IsRecord) lists
+  pub held : HoldLists before head lists
+
+-- The logs in use hold records that fold.
+pub record AreFolded (before : List devices.Device) : Type 0 where
+  pub head : ℕ
+  pub lists : List (List Record)
+  pub fold : Folded
+  pub given : AreGiven before head lists
+  pub folded : IsFolded lists fold
+
+-- ---- refusals: a log is named by its device
+
+-- This log was not opened, for this cause. Those below it were, and those above it got no call.
+pub record IsNotOpened (before after : List devices.Device) (log : ℕ) (why : OpenNo) : Type 0 where
+  pub there : log < 4
+  pub refused : Refused (devices.device_at before log).told (devices.device_at after log).told why
+  pub reached : devices.IsReached log before after
+
+-- Its device failed.
+pub record HasFailedDevice (before after : List devices.Device) (log : ℕ) : Type 0 where
+  pub not_opened : IsNotOpened before after log refusal.Device
+  pub rose : Rose (devices.device_at before log).faults (devices.device_at after log).faults
+
+-- This log is in use, the next one behind logs that hold records, and the first byte at which no record goes on is here.
+pub record HasBadRecord (many : ℕ) (before after : List devices.Device) (log offset : ℕ) : Type 0 where
+  pub head : ℕ
+  pub count : ℕ
+  pub generation : ℕ
+  pub used : AreUsed many before head count generation
+  pub below : List (List Record)
+  pub held : HoldLists before head below
+  pub asked : length below < count
+  pub is : log ≡ head + length below
+  pub bad : (end : ℕ) × (opened : Option DeviceHistory) × (found : List LogItem) × Opened (devices.device_at before log).told opened end found × IsFirstBadIn found offset
+
+-- The records of the logs in use fold to nothing, for this cause, which is of this log.
+pub record FoldsToNothing (before : List devices.Device) (log : ℕ) (why : LogCause) : Type 0 where
+  pub head : ℕ
+  pub lists : List (List Record)
+  pub given : AreGiven before head lists
+  pub number : ℕ
+  pub is : log ≡ head + number
+  pub cause_is : IsFoldCause lists number why
+
+-- What this log holds is refused, for this cause: it was not opened, or not decoded; or the records of all in use fold to nothing.
 abbrev pub IsLogRefused : List devices.Device → List devices.Device → ℕ → ℕ → LogCause → Type 0
-IsLogRefused before after log offset cause.NotALog =
-    IsLogAsked before log × Refused (devices.device_at before log).told (devices.device_at after log).told (refusal.NotALog offset)
-    × devices.IsReached log before after
-IsLogRefused before after log offset cause.Damage =
-    IsLogAsked before log × Refused (devices.device_at before log).told (devices.device_at after log).told (refusal.Damage offset)
-    × devices.IsReached log before after
-IsLogRefused before after log offset cause.BadRecord =
-    IsLogAsked before log × ((end : ℕ) × (found : List LogItem)
-    × Opened (devices.device_at before log).told (devices.device_at after log).told end found × IsFirstBadIn found offset)
-    × IsDecoded before after log
-IsLogRefused before after log offset c =
-    (offset ≡ 0) × ((logs : List (List Record)) × AreGiven before logs × IsFoldCause logs log c × devices.AreOpened (length logs) before after)
-
--- the device of a log that is asked failed, and the devices behind it got no call
-abbrev pub HasFailedDevice : List devices.Device → List devices.Device → ℕ → Type 0
-HasFailedDevice before after log =
-    (log < length before) × Rose (devices.device_at before log).faults (devices.device_at after log).faults × IsLogAsked before log
-    × Refused (devices.device_at before log).told (devices.device_at after log).told refusal.Device × devices.IsReached log before after
+IsLogRefused before after log offset cause.NotALog = IsNotOpened before after log (refusal.NotALog offset)
+IsLogRefused before after log offset cause.Damage = IsNotOpened before after log (refusal.Damage offset)
+IsLogRefused before after log offset cause.BadRecord = HasBadRecord 1 before after log offset × devices.AreOpened 4 before after
+IsLogRefused before after log offset c = (offset ≡ 0) × FoldsToNothing before log c × devices.AreOpened 4 before after
 
 -- why nothing is recovered, from the devices before and after
 abbrev pub IsLogsNo : List devices.Device → List devices.Device → LogsNo → Type 0
 IsLogsNo before after (ending.Refused log offset c) = IsLogRefused before after log offset c
 IsLogsNo before after (ending.Device log) = HasFailedDevice before after log
-IsLogsNo before after ending.Memory = devices.LacksMemory (λ log. IsLogAsked before log) before after
+IsLogsNo before after ending.Memory = devices.LacksMemory (λ log. log < 4) before after

@@ -1,4 +1,5 @@
 pub mod Counted
+pub mod Cuts
 pub mod Devices
 pub mod Found
 pub mod Kept

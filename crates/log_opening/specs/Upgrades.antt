@@ -1,6 +1,5 @@
 -- What upgrading open logs leaves of them.
-use Rattle.std.specs.Prelude.{◌≡◌, ◌≢◌, ℕ, ◌+◌, ◌==◌, ◌<◌, ◌≤◌, ◌⊎◌, if◌then◌else◌, Bool, false, Option, IfSome, List, [], ◌∷◌, length, take, drop, slice_index_or}
-use Rattle.std.specs.List.{AllZip}
+use Rattle.std.specs.Prelude.{◌≡◌, ◌≢◌, ℕ, ◌+◌, ◌==◌, ◌<◌, ◌≤◌, ◌⊎◌, if◌then◌else◌, Bool, false, Option, IfSome, List, [], ◌∷◌, length, slice_index_or}
 use Rattle.snap_outside.specs.Causes.{Rose}
 use Rattle.snap_outside.specs.Disk.{DeviceHistory, content, AddsAll, AddsUpToFault}
 use Rattle.gate_log.specs.declared.logs.LogItem.{LogItem}
@@ -10,6 +9,7 @@ use Rattle.gate_log.specs.Device.{Upgraded, UpgradesSafely}
 use Rattle.gate_log.specs.Opened.{Opened}
 use Rattle.gate_log.specs.State.{LogState, log_at}
 use Rattle.snap_recover.specs.declared.causes.LogCause.TheVariants as cause
+use Rattle.log_compact.specs.Compacting.{IsOnSide}
 use Rattle.log_opening.specs.Devices.{Device, device_at, IsBegun, IsOpened}
 use Rattle.log_opening.specs.declared.refusals.LogsNo.{LogsNo}
 use Rattle.log_opening.specs.declared.refusals.LogsNo.TheVariants as ending
@@ -49,38 +49,39 @@ IsNotMadeReady old new items = (items ≡ []) × (old.format ≡ 1) × IsUpgrade
 abbrev pub items_at : List (List LogItem) → ℕ → List LogItem
 items_at found n = slice_index_or found n []
 
--- the logs below this one are made ready, and the others are as they were
-pub record AreReadyBelow (n : ℕ) (old new : List LogState) (found : List (List LogItem)) : Type 0 where
+-- Of the logs from this one on so many are made ready. The others are as they were.
+pub record AreReadyBelow (from n : ℕ) (old new : List LogState) (found : List (List LogItem)) : Type 0 where
   pub many : length new ≡ length old
-  pub below : (l : ℕ) → l < n → IsMadeReady (log_at old l) (log_at new l) (items_at found l)
-  pub above : (l : ℕ) → n ≤ l → log_at new l ≡ log_at old l
+  pub below : (l : ℕ) → l < n → IsMadeReady (log_at old (from + l)) (log_at new (from + l)) (items_at found (from + l))
+  pub others : (d : ℕ) → ¬ IsOnSide from n d → log_at new d ≡ log_at old d
 
--- all logs are made ready, and each is of format 2
-pub record AreAllReady (old new : List LogState) (found : List (List LogItem)) : Type 0 where
-  pub all : AreReadyBelow (length old) old new found
-  pub second : (l : ℕ) → l < length old → (log_at new l).format ≡ 2
+-- so many logs from this one on are made ready, and each of them is of format 2
+pub record AreAllReady (from count : ℕ) (old new : List LogState) (found : List (List LogItem)) : Type 0 where
+  pub all : AreReadyBelow from count old new found
+  pub second : (l : ℕ) → l < count → (log_at new (from + l)).format ≡ 2
 
--- The upgrade of this log failed; those below it are ready, and those above it as they were.
-pub record IsStopped (n : ℕ) (old new : List LogState) (found : List (List LogItem)) : Type 0 where
-  pub asked : n < length old
+-- Of so many logs from this one on the upgrade of the one with this number failed; those below it are ready, and all others as they were.
+pub record IsStopped (from count n : ℕ) (old new : List LogState) (found : List (List LogItem)) : Type 0 where
+  pub asked : n < count
   pub many : length new ≡ length old
-  pub below : (l : ℕ) → l < n → IsMadeReady (log_at old l) (log_at new l) (items_at found l)
-  pub failed : IsNotMadeReady (log_at old n) (log_at new n) (items_at found n)
-  pub above : (l : ℕ) → n < l → log_at new l ≡ log_at old l
+  pub below : (l : ℕ) → l < n → IsMadeReady (log_at old (from + l)) (log_at new (from + l)) (items_at found (from + l))
+  pub failed : IsNotMadeReady (log_at old (from + n)) (log_at new (from + n)) (items_at found (from + n))
+  pub others : (d : ℕ) → ¬ IsOnSide from (n + 1) d → log_at new d ≡ log_at old d
 
--- All logs are made ready, but this one is of format 1, and is the least such.
-pub record IsLeftOld (n : ℕ) (old new : List LogState) (found : List (List LogItem)) : Type 0 where
-  pub asked : n < length old
-  pub all : AreReadyBelow (length old) old new found
-  pub old_format : (log_at new n).format ≡ 1
-  pub least : (l : ℕ) → l < n → (log_at new l).format ≡ 2
+-- So many logs from this one on are made ready, but the one with this number is of format 1, and is the least such.
+pub record IsLeftOld (from count n : ℕ) (old new : List LogState) (found : List (List LogItem)) : Type 0 where
+  pub asked : n < count
+  pub all : AreReadyBelow from count old new found
+  pub old_format : (log_at new (from + n)).format ≡ 1
+  pub least : (l : ℕ) → l < n → (log_at new (from + l)).format ≡ 2
 
--- why the logs are not ready for appends
-abbrev pub AreNotReady : List LogState → List LogState → List (List LogItem) → LogsNo → Type 0
-AreNotReady old new found (ending.Refused log offset cause.OldFormat) = (offset ≡ 0) × IsLeftOld log old new found
-AreNotReady old new found (ending.Refused log offset c) = ⊥
-AreNotReady old new found (ending.Device log) = IsStopped log old new found
-AreNotReady old new found ending.Memory = ⊥
+-- why so many logs from this one on are not ready for appends
+abbrev pub AreNotReady : ℕ → ℕ → List LogState → List LogState → List (List LogItem) → LogsNo → Type 0
+AreNotReady from count old new found (ending.Refused log offset cause.OldFormat) =
+    (offset ≡ 0) × ((n : ℕ) × (log ≡ from + n) × IsLeftOld from count n old new found)
+AreNotReady from count old new found (ending.Refused log offset c) = ⊥
+AreNotReady from count old new found (ending.Device log) = (n : ℕ) × (log ≡ from + n) × IsStopped from count n old new found
+AreNotReady from count old new found ending.Memory = ⊥
 
 -- how many of the logs are of format 1
 abbrev pub old_count : List LogState → ℕ
@@ -103,18 +104,20 @@ IsBeginningCutOff before after =
     × IfSome before.told (λ h. format_in (content h) ≡ 1)
     × AddsUpToFault opened after.told upgrade_ops
 
--- So many devices are opened. The upgrade of this log failed; those below it are of format 2, and those above it are only opened.
-pub record FailsBeginning (count : ℕ) (before after : List Device) (log : ℕ) : Type 0 where
-  pub asked : log < count
-  pub there : log < length before
+-- Of the logs in use, so many from the head on, the upgrade of this one failed; those in use below it are of format 2, and all others are
+-- only opened.
+pub record FailsBeginning (head count : ℕ) (before after : List Device) (log : ℕ) : Type 0 where
+  pub number : ℕ
+  pub asked : number < count
+  pub is : log ≡ head + number
   pub cut_off : IsBeginningCutOff (device_at before log) (device_at after log)
   pub rose : Rose (device_at before log).faults (device_at after log).faults
-  pub below : AllZip IsBegun (take log before) (take log after)
-  pub above : AllZip IsOpened (drop (log + 1) (take count before)) (drop (log + 1) (take count after))
-  pub others : drop count after ≡ drop count before
+  pub below : (l : ℕ) → l < number → IsBegun (device_at before (head + l)) (device_at after (head + l))
+  pub above : (l : ℕ) → number < l → l < count → IsOpened (device_at before (head + l)) (device_at after (head + l))
+  pub aside : (d : ℕ) → d < 4 → ¬ IsOnSide head count d → IsOpened (device_at before d) (device_at after d)
 
--- why not all of so many logs are of format 2
-abbrev pub IsNotBegun : ℕ → List Device → List Device → LogsNo → Type 0
-IsNotBegun count before after (ending.Device log) = FailsBeginning count before after log
-IsNotBegun count before after (ending.Refused log offset c) = ⊥
-IsNotBegun count before after ending.Memory = ⊥
+-- why not all logs in use are of format 2
+abbrev pub IsNotBegun : ℕ → ℕ → List Device → List Device → LogsNo → Type 0
+IsNotBegun head count before after (ending.Device log) = FailsBeginning head count before after log
+IsNotBegun head count before after (ending.Refused log offset c) = ⊥
+IsNotBegun head count before after ending.Memory = ⊥

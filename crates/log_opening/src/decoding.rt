@@ -1,7 +1,6 @@
-//! The records of opened logs, and what they fold to.
-ghost use Rattle.std.specs.Prelude.{◌≡◌, ◌≤◌, ℕ, List, [], ◌∷◌, ◌++◌, length, take, MatchResult};
+//! The records of the logs in use, and what they fold to.
+ghost use Rattle.std.specs.Prelude.{◌+◌, ◌≤◌, length, MatchResult};
 ghost use Rattle.std.specs.List.{AllByRecursion, AllZip};
-ghost use Rattle.txn_records.specs.declared.records.Record.{Record};
 ghost use Rattle.record_log.specs.Records.{AreItemsOf};
 ghost use Rattle.log_compact.specs.Sets.{IsFolded};
 ghost use Rattle.log_opening.specs.Found.{ArePlaced, IsNoReading, IsNoDecoding, IsNoFold};
@@ -32,61 +31,43 @@ pub fn read_log(alloc: Global, items: &[LogItem], log: u8) -> Result<Sequence<Re
     }
 }
 
-/// The records of all logs, of which those of log 0 are these.
-pub(crate) fn read_others(
-    alloc: Global,
-    found: &[Sequence<LogItem>],
-    first: Sequence<Record>,
-) -> Result<Sequence<Sequence<Record>>, LogsNo>
-    requires placed { AllByRecursion ArePlaced found.now }
-    requires some { 1 ≤ length found.now }
-    requires few { length found.now ≤ 4 }
-    requires first { AllZip AreItemsOf (take 1 found.now) (first ∷ []) }
-    ensures { MatchResult result
-        (λ logs. AllZip AreItemsOf found.now logs × ((others : List (List Record)) × (logs ≡ first ∷ others)))
-        (λ no. IsNoDecoding found.now (first ∷ []) no) }
-{
-    let mut known = Sequence::new(alloc);
-    if known.push(first).is_err() {
-        return Err(LogsNo::Memory);
-    }
-    read_logs(alloc, found, known)
-}
-
-/// The records of all logs, of which those of the first ones are these. The logs are decoded in their order.
+/// The records of the logs in use, in which these items were found, and the first of which lies on this device. The logs are decoded in
+/// their order; `BadRecord` names the first one that holds an item that is no record.
 pub(crate) fn read_logs(
     alloc: Global,
     found: &[Sequence<LogItem>],
-    known: Sequence<Sequence<Record>>,
+    head: u8,
 ) -> Result<Sequence<Sequence<Record>>, LogsNo>
     requires placed { AllByRecursion ArePlaced found.now }
-    requires few { length found.now ≤ 4 }
-    requires fewer { length known ≤ length found.now }
-    requires known { AllZip AreItemsOf (take (length known) found.now) known }
-    ensures { MatchResult result
-        (λ logs. AllZip AreItemsOf found.now logs × ((more : List (List Record)) × (logs ≡ known ++ more)))
-        (λ no. IsNoDecoding found.now known no) }
+    requires few { head + length found.now ≤ 4 }
+    ensures { MatchResult result (λ lists. AllZip AreItemsOf found.now lists) (λ no. IsNoDecoding head found.now no) }
 {
-    let mut logs = known;
-    for log in logs.len()..found.len() {
-        match read_log(alloc, found[log].as_slice(), log as u8) {
+    let mut lists = Sequence::new(alloc);
+    for number in 0..found.len() {
+        match read_log(alloc, found[number].as_slice(), head + number as u8) {
             Ok(records) => {
-                if logs.push(records).is_err() {
+                if lists.push(records).is_err() {
                     return Err(LogsNo::Memory);
                 }
             }
             Err(no) => return Err(no),
         }
     }
-    Ok(logs)
+    Ok(lists)
 }
 
-/// What the records of the logs fold to; or the log and the cause for which they fold to nothing.
-pub fn fold_records(alloc: Global, logs: Sequence<Sequence<Record>>) -> Result<Folded, LogsNo>
-    ensures { MatchResult result (λ f. IsFolded logs f) (λ no. IsNoFold logs no) }
+/// What the records of the logs in use, the first of which lies on this device, fold to; or the cause for which they fold to nothing, and
+/// the log, by its device.
+pub fn fold_records(
+    alloc: Global,
+    lists: Sequence<Sequence<Record>>,
+    head: u8,
+) -> Result<Folded, LogsNo>
+    requires { head + length lists ≤ 4 }
+    ensures { MatchResult result (λ f. IsFolded lists f) (λ no. IsNoFold head lists no) }
 {
-    match fold(alloc, logs) {
+    match fold(alloc, lists) {
         Ok(folded) => Ok(folded),
-        Err(no) => Err(of_fold(no)),
+        Err(no) => Err(of_fold(no, head)),
     }
 }

@@ -2,7 +2,7 @@
 ghost use Rattle.std.specs.Prelude.{◌≡◌, ◌+◌, ◌-◌, ◌<◌, ◌≤◌, List, [], ◌∷◌, ◌++◌, length, take, drop, vec_len, vec_capacity, IfOk, OnOk, IfErr, MatchResult};
 ghost use Rattle.std.specs.List.{insert, AllZip};
 ghost use Rattle.gate_log.specs.declared.logs.LogItem.{LogItem};
-ghost use Rattle.log_opening.specs.Devices.{Device, devices_of, devices_now, as_device};
+ghost use Rattle.log_opening.specs.Devices.{Device, devices_of, devices_now, devices_with, as_device};
 ghost use Rattle.log_opening.specs.Found.{IsFoundOn, IsReadyLog, IsLeftClosed, AreFound, IsHalted};
 
 use crate::LogsNo;
@@ -13,7 +13,7 @@ use snap_base::{Memory, Sequence};
 use snap_outside::LogDev;
 use std::alloc::Global;
 
-/// Logs that are open, log 0 first, and what was found in each. The devices of the others stay with the caller, and
+/// Logs that are open, that of device 0 first, and what was found in each. The devices of the others stay with the caller, and
 /// `close` puts these before them.
 pub struct OpenLogs<D: LogDev> {
     /// The logs.
@@ -126,16 +126,19 @@ fn open_device<D: LogDev>(alloc: Global, dev: D) -> Result<(Log<D>, Sequence<Log
     }
 }
 
-/// Hands the devices of open logs back: they are put before these, in the order of the logs. There is room for them.
-pub fn close<D: LogDev>(logs: Vec<Log<D>>, devices: &mut Vec<D>)
-    requires { vec_len logs + vec_len devices.old ≤ vec_capacity devices.old }
+/// Hands the devices of open logs back: they are put behind the first `head` of these, in the order of the logs. There is room for them.
+pub fn close<D: LogDev>(logs: Vec<Log<D>>, devices: &mut Vec<D>, head: usize)
+    requires behind { head ≤ vec_len devices.old }
+    requires room { vec_len logs + vec_len devices.old ≤ vec_capacity devices.old }
     ensures len { vec_len devices.new ≡ vec_len logs + vec_len devices.old }
-    ensures devices { devices_of D.told D.faults devices.new.items ≡ devices_now D.told D.faults logs.items devices.old.items }
-    ensures rest { drop (vec_len logs) devices.new.items ≡ devices.old.items }
+    ensures devices { devices_of D.told D.faults devices.new.items ≡ devices_with D.told D.faults head logs.items devices.old.items }
+    ensures front { take head devices.new.items ≡ take head devices.old.items }
+    ensures rest { drop (head + vec_len logs) devices.new.items ≡ drop head devices.old.items }
+    ensures capacity { vec_capacity devices.new ≡ vec_capacity devices.old }
 {
     let mut logs = logs;
     while let Some(log) = logs.pop() {
-        put(devices, 0, log.into_dev());
+        put(devices, head, log.into_dev());
     }
     logs.destroy_empty();
 }

@@ -1,17 +1,17 @@
 //! Why logs are not opened, or give no opening.
-ghost use Rattle.std.specs.Prelude.{◌≡◌, List};
+ghost use Rattle.std.specs.Prelude.{◌≡◌, ◌+◌, ◌<◌, List, IfSome};
 ghost use Rattle.txn_records.specs.declared.records.Record.{Record};
-ghost use Rattle.log_compact.specs.declared.refusals.FoldNo.TheVariants as fold;
+ghost use Rattle.log_compact.specs.declared.refusals.FoldNo.TheVariants.{Recover};
 ghost use Rattle.log_compact.specs.Refusals.{IsNotFolded};
-ghost use Rattle.log_opening.specs.Found.{IsNoFold, no_of_opening};
+ghost use Rattle.log_opening.specs.Found.{IsFoldCause, IsNoFold, log_named, no_of_opening};
 
 use gate_log::OpenNo;
 use log_compact::FoldNo;
 use snap_recover::{LogCause, RecoverNo};
 
-/// Why logs are not opened, or give no opening. `Refused` says what a log holds that is refused, and no other call was
-/// made of its device but those of opening; `offset` is the place in the file, where the file or one of its records
-/// is the cause, and else 0.
+/// Why logs are not opened, or give no opening. A log is named by its device, 0 to 3. `Refused` says what a log holds that is refused,
+/// and no other call was made of its device but those of opening and, where it is of format 1 and has no item, of an upgrade; `offset`
+/// is the place in the file, where the file or one of its records is the cause, and else 0.
 #[derive(Clone, Copy, Debug, PartialEq, Eq)]
 pub enum LogsNo {
     /// What the logs hold is refused.
@@ -48,44 +48,49 @@ pub fn of_opening(no: OpenNo, log: u8) -> LogsNo
     }
 }
 
-/// Why logs give no opening, where their records fold to nothing.
-pub(crate) fn of_fold(no: FoldNo) -> LogsNo
-    ensures { (logs : List (List Record)) → IsNotFolded logs no → IsNoFold logs result }
+/// Why logs give no opening, where the records of those in use fold to nothing. The first of these lies on this device.
+pub(crate) fn of_fold(no: FoldNo, head: u8) -> LogsNo
+    requires { head + log_named no < 256 }
+    ensures { (lists : List (List Record)) → IsNotFolded lists no → IsNoFold head lists result }
 {
-    let (log, cause) = match no {
-        FoldNo::Stray { log } => (log, LogCause::Stray),
-        FoldNo::Range { key, log } => (log, LogCause::Range { key }),
-        FoldNo::Recover(why) => return of_recovery(why),
-        FoldNo::Memory => return LogsNo::Memory,
-    };
-    LogsNo::Refused {
-        log,
-        offset: 0,
-        cause,
+    match cause_of(no) {
+        Some((number, cause)) => LogsNo::Refused {
+            log: head + number,
+            offset: 0,
+            cause,
+        },
+        None => LogsNo::Memory,
     }
 }
 
-/// Why logs give no opening, where their records recover to nothing once the checkpoint's states are Genesis's.
-fn of_recovery(no: RecoverNo) -> LogsNo
-    ensures { (logs : List (List Record)) → IsNotFolded logs (fold.Recover no) → IsNoFold logs result }
+/// The log in use that the answer names, and the cause; `None` where it is want of memory.
+fn cause_of(no: FoldNo) -> Option<(u8, LogCause)>
+    ensures { IfSome result (λ x. (x.0 ≡ log_named no) × ((lists : List (List Record)) → IsNotFolded lists no → IsFoldCause lists x.0 x.1)) }
 {
-    let (log, cause) = match no {
-        RecoverNo::NoGenesis => (0, LogCause::NoGenesis),
-        RecoverNo::TwoGenesis => (0, LogCause::TwoGenesis),
-        RecoverNo::LogCount { kept, found } => (0, LogCause::LogCount { kept, found }),
-        RecoverNo::Range { key, log } => (log, LogCause::Range { key }),
-        RecoverNo::Missing { key, log } => (log, LogCause::Missing { key }),
+    match no {
+        FoldNo::Stray { log } => Some((log, LogCause::Stray)),
+        FoldNo::Range { key, log } => Some((log, LogCause::Range { key })),
+        FoldNo::Recover(why) => recovery_cause(why),
+        FoldNo::Memory => None,
+    }
+}
+
+/// The log in use that the answer names, and the cause, where the logs without their checkpoint recover to nothing.
+fn recovery_cause(no: RecoverNo) -> Option<(u8, LogCause)>
+    ensures { IfSome result (λ x. (x.0 ≡ log_named (Recover no)) × ((lists : List (List Record)) → IsNotFolded lists (Recover no) → IsFoldCause lists x.0 x.1)) }
+{
+    match no {
+        RecoverNo::NoGenesis => Some((0, LogCause::NoGenesis)),
+        RecoverNo::TwoGenesis => Some((0, LogCause::TwoGenesis)),
+        RecoverNo::LogCount { kept, found } => Some((0, LogCause::LogCount { kept, found })),
+        RecoverNo::Range { key, log } => Some((log, LogCause::Range { key })),
+        RecoverNo::Missing { key, log } => Some((log, LogCause::Missing { key })),
         RecoverNo::Values {
             key,
             log,
             kept,
             found,
-        } => (log, LogCause::Values { key, kept, found }),
-        RecoverNo::Memory => return LogsNo::Memory,
-    };
-    LogsNo::Refused {
-        log,
-        offset: 0,
-        cause,
+        } => Some((log, LogCause::Values { key, kept, found })),
+        RecoverNo::Memory => None,
     }
 }

@@ -1,7 +1,6 @@
 //! Open logs of format 1 are made ones of format 2, to which may be appended.
-ghost use Rattle.std.specs.Prelude.{◌≡◌, ◌≢◌, ◌++◌, ◌<◌, ◌≤◌, ℕ, List, [], length, map, take, vec_len, vec_capacity, false, IfErr, MatchOption, MatchResult, OnOk};
+ghost use Rattle.std.specs.Prelude.{◌≡◌, ◌≢◌, ◌+◌, ◌<◌, ◌≤◌, ℕ, List, length, map, take, drop, vec_len, vec_capacity, false, IfErr, MatchOption, MatchResult, OnOk};
 ghost use Rattle.std.specs.List.{AllByRecursion, AllZip};
-ghost use Rattle.gate_log.specs.declared.logs.LogItem.{LogItem};
 ghost use Rattle.log_opening.specs.Devices.{Device, AreBegun, as_device};
 ghost use Rattle.log_opening.specs.Found.{IsKeptSafe, IsReadyLog};
 ghost use Rattle.log_opening.specs.Reads.{AreOpenOn};
@@ -9,7 +8,6 @@ ghost use Rattle.gate_log.specs.State.{log_at};
 ghost use Rattle.log_opening.specs.Upgrades.{AreNotReady, AreOld, AreAllReady, AreReadyBelow, IsMadeReady, IsNotBegun, IsNotMadeReady, IsStopped, IsUpgraded, IsUpgradeFailed, items_at, old_count};
 
 use crate::LogsNo;
-use crate::openings::OpenLogs;
 use gate_log::{Log, LogItem, logs_are_lists, one_list, opening_is_safe};
 use record_log::upgrade_keeps;
 use snap_base::Sequence;
@@ -17,25 +15,28 @@ use snap_outside::{Failed, LogDev};
 use snap_recover::LogCause;
 use std::alloc::Global;
 
-/// Makes open logs ready for appends: each of format 1 that has no item is upgraded, from log 0 on. Then the first that is still of
-/// format 1 is refused.
-pub(crate) fn make_ready<D: LogDev>(opened: &mut OpenLogs<D>) -> Result<(), LogsNo>
-    requires few { vec_len opened.old.logs ≤ 4 }
-    requires ready { AllZip IsReadyLog opened.old.logs.items opened.old.found }
-    ensures ready { MatchResult result
-        (λ _. AreAllReady opened.old.logs.items opened.new.logs.items opened.old.found)
-        (λ no. AreNotReady opened.old.logs.items opened.new.logs.items opened.old.found no) }
-    ensures found { opened.new.found ≡ opened.old.found }
-    ensures len { vec_len opened.new.logs ≡ vec_len opened.old.logs }
-    ensures room { vec_capacity opened.new.logs ≡ vec_capacity opened.old.logs }
+/// Makes the open logs in use, so many from this device on, ready for appends: each of format 1 in which no item was found is upgraded,
+/// from the first on. Then the first that is still of format 1 is refused. The others are as they were.
+pub(crate) fn make_ready<D: LogDev>(
+    logs: &mut Vec<Log<D>>,
+    found: &[Sequence<LogItem>],
+    head: usize,
+    count: usize,
+) -> Result<(), LogsNo>
+    requires within { head + count ≤ vec_len logs.old }
+    requires few { vec_len logs.old ≤ 4 }
+    requires ready { AllZip IsReadyLog logs.old.items found.now }
+    ensures ready { MatchResult result (λ _. AreAllReady head count logs.old.items logs.new.items found.now) (λ no. AreNotReady head count logs.old.items logs.new.items found.now no) }
+    ensures len { vec_len logs.new ≡ vec_len logs.old }
+    ensures room { vec_capacity logs.new ≡ vec_capacity logs.old }
 {
-    match upgrade_logs(&mut opened.logs, opened.found.as_slice()) {
+    match upgrade_logs(logs, found, head, count) {
         Ok(()) => {}
         Err(log) => return Err(LogsNo::Device { log }),
     }
-    match first_old(opened.logs.as_slice()) {
-        Some(log) => Err(LogsNo::Refused {
-            log,
+    match first_old(&logs.as_slice()[head..head + count]) {
+        Some(number) => Err(LogsNo::Refused {
+            log: head as u8 + number,
             offset: 0,
             cause: LogCause::OldFormat,
         }),
@@ -43,37 +44,42 @@ pub(crate) fn make_ready<D: LogDev>(opened: &mut OpenLogs<D>) -> Result<(), Logs
     }
 }
 
-/// Makes all open logs ones of format 2, from log 0 on. Where the device of one fails, those above it are as they were.
-pub fn upgrade_all<D: LogDev>(alloc: Global, opened: &mut OpenLogs<D>) -> Result<(), LogsNo>
-    requires few { vec_len opened.old.logs ≤ 4 }
-    requires ready { AllZip IsReadyLog opened.old.logs.items opened.old.found }
-    ensures begun { OnOk result ((before others : List Device) → AreOpenOn before (map as_device opened.old.logs.items ++ others) opened.old.logs.items opened.old.found
-        → AreBegun (length opened.old.found) before (map as_device opened.new.logs.items ++ others)) }
-    ensures failed { IfErr result (λ no. (before others : List Device) → AreOpenOn before (map as_device opened.old.logs.items ++ others) opened.old.logs.items opened.old.found
-        → IsNotBegun (length opened.old.found) before (map as_device opened.new.logs.items ++ others) no) }
-    ensures safe { (before others : List Device) → AreOpenOn before (map as_device opened.old.logs.items ++ others) opened.old.logs.items opened.old.found
-        → AllZip IsKeptSafe before (map as_device opened.new.logs.items ++ others) }
-    ensures len { vec_len opened.new.logs ≡ vec_len opened.old.logs }
-    ensures room { vec_capacity opened.new.logs ≡ vec_capacity opened.old.logs }
+/// Makes the open logs in use, so many from this device on, ones of format 2, from the first on. Where the device of one fails, those above
+/// it are as they were, and so are all that are not in use.
+pub fn upgrade_all<D: LogDev>(
+    alloc: Global,
+    logs: &mut Vec<Log<D>>,
+    head: usize,
+    count: usize,
+) -> Result<(), LogsNo>
+    requires within { head + count ≤ vec_len logs.old }
+    requires few { vec_len logs.old ≤ 4 }
+    requires open { AllByRecursion (λ l. l.shut ≡ false) logs.old.items }
+    ensures begun { OnOk result ((before : List Device) → AreOpenOn before logs.old.items → AreBegun head count before (map as_device logs.new.items)) }
+    ensures failed { IfErr result (λ no. (before : List Device) → AreOpenOn before logs.old.items → IsNotBegun head count before (map as_device logs.new.items) no) }
+    ensures safe { (before : List Device) → AreOpenOn before logs.old.items → AllZip IsKeptSafe before (map as_device logs.new.items) }
+    ensures len { vec_len logs.new ≡ vec_len logs.old }
+    ensures room { vec_capacity logs.new ≡ vec_capacity logs.old }
 {
     logs_are_lists();
     one_list();
     opening_is_safe();
     upgrade_keeps();
     let none = Sequence::new(alloc);
-    match upgrade_logs(&mut opened.logs, none.as_slice()) {
+    match upgrade_logs(logs, none.as_slice(), head, count) {
         Ok(()) => Ok(()),
         Err(log) => Err(LogsNo::Device { log }),
     }
 }
 
-/// How many open logs are of format 1.
-pub fn count_old<D: LogDev>(logs: &[Log<D>]) -> u8
-    requires { length logs.now ≤ 4 }
-    ensures { (before others : List Device) (found : List (List LogItem)) → AreOpenOn before (map as_device logs.now ++ others) logs.now found → AreOld (take (length found) before) result }
+/// How many of the open logs in use, so many from this device on, are of format 1.
+pub fn count_old<D: LogDev>(logs: &[Log<D>], head: usize, count: usize) -> u8
+    requires within { head + count ≤ length logs.now }
+    requires few { length logs.now ≤ 4 }
+    ensures { (before : List Device) → AreOpenOn before logs.now → AreOld (take count (drop head before)) result }
 {
     opening_is_safe();
-    old_logs(logs)
+    old_logs(&logs[head..head + count])
 }
 
 /// How many of these logs are of format 1.
@@ -90,19 +96,28 @@ fn old_logs<D: LogDev>(logs: &[Log<D>]) -> u8
     count
 }
 
-/// Upgrades each log of format 1, from log 0 on, but those for which items are listed. The error is the log whose device failed.
-fn upgrade_logs<D: LogDev>(logs: &mut Vec<Log<D>>, listed: &[Sequence<LogItem>]) -> Result<(), u8>
+/// Upgrades each log of format 1 of so many from this one on, but those for which items are listed. The error is the log whose device
+/// failed.
+fn upgrade_logs<D: LogDev>(
+    logs: &mut Vec<Log<D>>,
+    listed: &[Sequence<LogItem>],
+    head: usize,
+    count: usize,
+) -> Result<(), u8>
+    requires within { head + count ≤ vec_len logs.old }
     requires few { vec_len logs.old ≤ 4 }
     requires open { AllByRecursion (λ l. l.shut ≡ false) logs.old.items }
     ensures ready { MatchResult result
-        (λ _. AreReadyBelow (length logs.old.items) logs.old.items logs.new.items listed.now)
-        (λ n. IsStopped n logs.old.items logs.new.items listed.now) }
+        (λ _. AreReadyBelow head count logs.old.items logs.new.items listed.now)
+        (λ log. (n : ℕ) × (log ≡ head + n) × IsStopped head count n logs.old.items logs.new.items listed.now) }
     ensures len { vec_len logs.new ≡ vec_len logs.old }
     ensures room { vec_capacity logs.new ≡ vec_capacity logs.old }
 {
-    for log in 0..logs.len() {
-        if make_one_ready(&mut logs[log], items_at(listed, log)).is_err() {
-            return Err(log as u8);
+    for number in 0..count {
+        let log = head + number;
+        match make_one_ready(&mut logs[log], items_at(listed, log)) {
+            Ok(()) => {}
+            Err(_failed) => return Err(log as u8),
         }
     }
     Ok(())

@@ -1,7 +1,9 @@
+pub mod BeforeRun
+pub mod Clearing
 pub mod Completing
 pub mod Differing
-pub mod Others
 pub mod RunLogs
 pub mod RunOpening
 pub mod Starting
+pub mod Taking
 pub mod Writing

@@ -1,7 +1,6 @@
 -- The logs of a run that are opened and written to, log by log.
-use Rattle.std.proofs.Common.{◌≡◌, ℕ, ◌<◌, inl, inr, List, [], ◌∷◌, ◌++◌, zero, suc, length, map, append_assoc, append-nil, refl, sym, ◌∙◌, ap, subst, arith, Option, Some, None}
+use Rattle.std.proofs.Common.{◌≡◌, ℕ, inl, List, [], ◌∷◌, ◌++◌, append_assoc, append-nil, refl, sym, ◌∙◌, ap, subst, arith, Option, Some, None}
 use Rattle.std.specs.Prelude.{IfSome, ◌⊎◌}
-use Rattle.std.specs.List.{AllByRecursion, AllZip}
 use Rattle.snap_outside.specs.declared.devices.DevOp.{DevOp}
 use Rattle.snap_outside.specs.Disk.{DeviceHistory, Disk, disk, content, settled, EachMoment, AddsAll, with_ops}
 use Rattle.snap_outside.specs.Moments.{adds_join, moments_join, moments_weaker, disk_join}
@@ -10,15 +9,15 @@ use Rattle.gate_log.specs.Appends.{append_ops, end_behind, upgrading_ops}
 use Rattle.gate_log.specs.Device.{DeviceLog}
 use Rattle.gate_log.specs.LogLaws.{OneReading, OpeningAdds, BeginningGives}
 use Rattle.gate_log.specs.Opened.{bytes_of, opening_ops, beginning_ops, Opened}
-use Rattle.gate_log.specs.State.{LogState, IsUntouched, log_at}
+use Rattle.gate_log.specs.State.{LogState, IsUntouched}
 use Rattle.txn_records.specs.declared.records.Record.{Record}
 use Rattle.record_log.specs.Growth.{all_records, MayAppendGroup, GrewBy, upgrading_of}
 use Rattle.record_log.specs.GrowthLaws.{OpeningGrows, GroupGrows, FaultGrows}
 use Rattle.record_log.specs.Records.{spelled, HoldsRecords, RecordLog, AreItemsOf, KeepsRecords, AppendsRecords, CrashesRecords}
 use Rattle.record_log.specs.RecordLogLaws.{OneListOfRecords, OpenedHeld, OpenedHolds}
-use Rattle.log_opening.specs.Devices.{Device, device_at, as_device}
-use Rattle.log_opening.specs.Found.{IsBegunOn, IsReadyLog, AreBegunOn}
-use Rattle.run_opening.specs.Opens.{IsRunLog, records_at, as_groups, KeepsOrAdds}
+use Rattle.log_opening.specs.Counted.{IsUsedLog}
+use Rattle.log_opening.specs.Devices.{Device}
+use Rattle.run_opening.specs.Opens.{IsRunLog, as_groups, KeepsOrAdds}
 use Rattle.run_opening.specs.Writes.{IsWritten}
 
 -- what the logs promise
@@ -54,34 +53,24 @@ held_of : LogLaws → (told new : Option DeviceHistory) (e : ℕ) (items : List 
 held_of laws None new e items rs opened are = tt
 held_of laws (Some h) new e items rs opened are = laws.before h new e items rs opened are
 
-one_log : LogLaws → (b : Device) (l : LogState) (items : List LogItem) (rs : List Record) → IsBegunOn b (as_device l) items → IsReadyLog l items → l.format ≡ 2 → AreItemsOf items rs
-    → IsRunLog b l l.end rs []
-one_log laws b l items rs on ready second are =
+pub used_log : LogLaws → (b : Device) (l : LogState) (rs : List Record) → IsUsedLog b l rs → IsRunLog b l l.end rs []
+used_log laws b l rs is =
+    let items : List LogItem = is.items in
+    let on = is.begun in
     let mid = on.begun.1.0 in
-    let opened : Opened b.told mid l.end items = opened_at laws b.told mid l.told on.begun.0 l.end items on.begun.1.1 on.begun.1.2 ready.holds in
+    let opened : Opened b.told mid l.end items = opened_at laws b.told mid l.told on.begun.0 l.end items on.begun.1.1 on.begun.1.2 is.ready.holds in
     record {
       opened = (mid, items, opened);
-      low = ready.low;
-      held = held_of laws b.told mid l.end items rs opened are;
+      low = is.ready.low;
+      held = held_of laws b.told mid l.end items rs opened is.are;
       grew = laws.grows b.told mid l.told l.end items opened on.begun.1.2;
       gate = refl;
       holds = if_some l.told (λ g. DeviceLog g l.end (bytes_of items)) (λ g. RecordLog g l.end (rs ++ all_records []))
-          (λ g log. subst (λ (x : List Record). RecordLog g l.end x) (sym (append-nil rs)) (laws.after g l.end items rs log are)) ready.holds;
-      second = second;
-      ready = ready.ready;
+          (λ g log. subst (λ (x : List Record). RecordLog g l.end x) (sym (append-nil rs)) (laws.after g l.end items rs log is.are)) is.ready.holds;
+      second = is.second;
+      ready = is.ready.ready;
       later = on.safe.later;
     }
-
-pub run_logs : LogLaws → (before others : List Device) (logs : List LogState) (found : List (List LogItem)) (records : List (List Record)) → AreBegunOn before (map as_device logs ++ others) found
-    → AllZip IsReadyLog logs found → AllByRecursion (λ (l : LogState). l.format ≡ 2) logs → AllZip AreItemsOf found records → (n : ℕ) → n < length records
-    → IsRunLog (device_at before n) (log_at logs n) (log_at logs n).end (records_at records n) []
-run_logs laws before others logs found [] are ready second items n lt = absurd (omega (arith, lt))
-run_logs laws before others logs [] (rs ∷ records) are ready second items n lt = absurd items
-run_logs laws before others [] (f ∷ found) (rs ∷ records) are ready second items n lt = absurd ready
-run_logs laws [] others (l ∷ logs) (f ∷ found) (rs ∷ records) are ready second items n lt = absurd are
-run_logs laws (b ∷ before) others (l ∷ logs) (f ∷ found) (rs ∷ records) are ready second items zero lt = one_log laws b l f rs are.0 ready.0 second.0 items.0
-run_logs laws (b ∷ before) others (l ∷ logs) (f ∷ found) (rs ∷ records) are ready second items (suc n) lt =
-    run_logs laws before others logs found records are.1 ready.1 second.1 items.1 n (omega (arith, lt))
 
 -- ---- written to
 
@@ -157,13 +146,3 @@ safely laws (Some h) mid new end rs added held keeps log crashes = keeps_or_adds
 pub written_safely : LogLaws → (b : Device) (l : LogState) (end : ℕ) (rs added : List Record) (new : Option DeviceHistory) → IsRunLog b l end rs [] → KeepsRecords b.told l.told
     → CrashesRecords l.told new l.end added → KeepsOrAdds b.told new added
 written_safely laws b l end rs added new is keeps crashes = safely laws b.told l.told new l.end rs added is.held keeps is.holds crashes
-
-pub nothing_added : (old new : Option DeviceHistory) → KeepsOrAdds old new [] → KeepsRecords old new
-nothing_added None new keeps = tt
-nothing_added (Some h) new keeps = (
-  keeps.0,
-  keeps.1,
-  (λ quiet rs held. moments_weaker (λ image. HoldsRecords image rs ⊎ HoldsRecords image (rs ++ [])) (λ image. HoldsRecords image rs)
-      (λ image there. elim there [ inl one ↦ one | inr more ↦ subst (λ (x : List Record). HoldsRecords image x) (append-nil rs) more ])
-      (disk h) keeps.0 (keeps.2 quiet rs held)),
-)

@@ -10,6 +10,7 @@ use Rattle.gate_log.specs.Bytes.{item_bytes, items_bytes}
 use Rattle.gate_log.specs.Device.{MayAppend}
 use Rattle.record_log.specs.Records.{spelled}
 use Rattle.snap_recover.specs.declared.openings.Opening.{Opening}
+use Rattle.snap_recover.specs.declared.causes.LogCause.{LogCause}
 use Rattle.snap_recover.specs.declared.causes.LogCause.TheVariants as cause
 use Rattle.log_compact.specs.declared.folds.Folded.{Folded}
 use Rattle.log_compact.specs.Folds.{FoldsAreBegun, FoldsAreOfRecords}
@@ -17,7 +18,7 @@ use Rattle.log_opening.specs.declared.refusals.LogsNo.{LogsNo}
 use Rattle.log_opening.specs.declared.refusals.LogsNo.TheVariants as ending
 use Rattle.log_opening.specs.Found.{IsNoFold}
 use Rattle.run_opening.specs.declared.limits.TheConstants.{LARGEST_START}
-use Rattle.run_opening.specs.Begins.{AreEmpty, IsUnspent, BeganWith, GoesOn, Begins}
+use Rattle.run_opening.specs.Begins.{AreEmpty, IsUnspent, BeganWith, GoesOn, Begins, IsCause}
 use Rattle.run_opening.specs.Starts.{IsStart, IsNoStart}
 
 -- ---- what is written
@@ -75,19 +76,23 @@ begins_unspent logs states o (inr on) = on.unspent
 
 -- ---- why there is none
 
-pub no_fold : (logs : List (List Record)) (states : List State) (no : LogsNo) → ¬ AreEmpty logs → IsNoFold logs no → IsNoStart logs states no
-no_fold logs states (ending.Refused log offset cause.NotALog) some why = absurd why.1
-no_fold logs states (ending.Refused log offset cause.Damage) some why = absurd why.1
-no_fold logs states (ending.Refused log offset cause.OldFormat) some why = absurd why.1
-no_fold logs states (ending.Refused log offset cause.BadRecord) some why = absurd why.1
-no_fold logs states (ending.Refused log offset cause.Stray) some why = (why.0, some, why.1)
-no_fold logs states (ending.Refused log offset cause.NoGenesis) some why = (why.0, some, why.1)
-no_fold logs states (ending.Refused log offset cause.TwoGenesis) some why = (why.0, some, why.1)
-no_fold logs states (ending.Refused log offset (cause.LogCount k f)) some why = (why.0, some, why.1)
-no_fold logs states (ending.Refused log offset (cause.Range k)) some why = (why.0, some, why.1)
-no_fold logs states (ending.Refused log offset (cause.Missing k)) some why = (why.0, some, why.1)
-no_fold logs states (ending.Refused log offset (cause.Values k u v)) some why = (why.0, some, why.1)
-no_fold logs states (ending.Refused log offset (cause.Spent n)) some why = absurd why.1
-no_fold logs states (ending.Refused log offset (cause.Differs w k t)) some why = absurd why.1
-no_fold logs states (ending.Device log) some why = absurd why
-no_fold logs states ending.Memory some why = tt
+pub no_fold : (head : ℕ) (logs : List (List Record)) (states : List State) (no : LogsNo) → ¬ AreEmpty logs → IsNoFold head logs no → IsNoStart head logs states no
+no_fold head logs states (ending.Refused log offset cause.NotALog) some why = absurd why.1.2
+no_fold head logs states (ending.Refused log offset cause.Damage) some why = absurd why.1.2
+no_fold head logs states (ending.Refused log offset cause.OldFormat) some why = absurd why.1.2
+no_fold head logs states (ending.Refused log offset cause.BadRecord) some why = absurd why.1.2
+no_fold head logs states (ending.Refused log offset cause.Stray) some why = (why.0, some, why.1)
+no_fold head logs states (ending.Refused log offset cause.NoGenesis) some why = (why.0, some, why.1)
+no_fold head logs states (ending.Refused log offset cause.TwoGenesis) some why = (why.0, some, why.1)
+no_fold head logs states (ending.Refused log offset (cause.LogCount k f)) some why = (why.0, some, why.1)
+no_fold head logs states (ending.Refused log offset (cause.Range k)) some why = (why.0, some, why.1)
+no_fold head logs states (ending.Refused log offset (cause.Missing k)) some why = (why.0, some, why.1)
+no_fold head logs states (ending.Refused log offset (cause.Values k u v)) some why = (why.0, some, why.1)
+no_fold head logs states (ending.Refused log offset (cause.Spent n)) some why = absurd why.1.2
+no_fold head logs states (ending.Refused log offset (cause.Differs w k t)) some why = absurd why.1.2
+no_fold head logs states (ending.Device log) some why = absurd why
+no_fold head logs states ending.Memory some why = tt
+
+-- a cause that is of the first of the logs
+pub no_start_at : (head : ℕ) (logs : List (List Record)) (states : List State) (c : LogCause) → ¬ AreEmpty logs → IsCause logs states 0 c → IsNoStart head logs states (ending.Refused head 0 c)
+no_start_at head logs states c some why = (refl, some, (0, omega arith, why))

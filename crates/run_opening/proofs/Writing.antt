@@ -1,5 +1,5 @@
 -- Writing to log 0.
-use Rattle.std.proofs.Common.{◌≡◌, ◌≢◌, ℕ, ◌+◌, ◌<◌, ◌≤◌, inl, inr, true, false, List, [], ◌∷◌, length, get_or, set, drop, refl, sym, ap, subst, arith, Result, Err}
+use Rattle.std.proofs.Common.{◌≡◌, ◌≢◌, ℕ, ◌+◌, ◌<◌, ◌≤◌, inl, inr, true, false, List, [], ◌∷◌, length, get_or, set, zero, suc, refl, sym, ◌∙◌, ap, subst, arith, Result, Ok, Err}
 use Rattle.std.specs.Prelude.{MatchResult, IsOk, is_ok}
 use Rattle.std.specs.List.{AllByRecursion}
 use Rattle.snap_outside.specs.Causes.{Rose}
@@ -16,7 +16,7 @@ use Rattle.record_log.specs.Growth.{MayAppendGroup}
 use Rattle.record_log.specs.Records.{spelled, AppendsRecords, CrashesRecords}
 use Rattle.record_log.specs.RecordLogLaws.{FewMayBeAppended}
 use Rattle.log_opening.specs.declared.refusals.LogsNo.{LogsNo}
-use Rattle.run_opening.specs.Writes.{IsWritten, IsNotWritten, no_of_append}
+use Rattle.run_opening.specs.Writes.{IsWritten, IsNotWritten, IsFirstWritten, IsFirstNotWritten, no_of_append}
 use Rattle.run_opening.proofs.Starting.{grown_little}
 
 -- ---- one log
@@ -59,14 +59,33 @@ pub first_at : (logs : List LogState) (l : LogState) → 0 < length logs → l �
 first_at [] l some is = absurd (omega (arith, some))
 first_at (x ∷ logs) l some is = sym is
 
-pub rest_same : (logs written : List LogState) (k : LogState) → written ≡ set logs 0 k → drop 1 written ≡ drop 1 logs
-rest_same [] written k put = ap (λ (l : List LogState). drop 1 l) put
-rest_same (x ∷ logs) written k put = ap (λ (l : List LogState). drop 1 l) put
+set_first : (logs : List LogState) (k : LogState) → 0 < length logs → log_at (set logs 0 k) 0 ≡ k
+set_first [] k some = absurd (omega (arith, some))
+set_first (x ∷ logs) k some = refl
 
-pub wrote_first : {T : Type 0} (r : Result T LogsNo) (logs written : List LogState) (l k : LogState) (added : List Record) → 0 < length logs → l ≡ get_or logs 0 l → written ≡ set logs 0 k
+set_others : (logs : List LogState) (k : LogState) (d : ℕ) → d ≢ 0 → log_at (set logs 0 k) d ≡ log_at logs d
+set_others [] k d not = refl
+set_others (x ∷ logs) k zero not = absurd (not refl)
+set_others (x ∷ logs) k (suc d) not = refl
+
+set_long : (logs : List LogState) (k : LogState) → length (set logs 0 k) ≡ length logs
+set_long [] k = refl
+set_long (x ∷ logs) k = refl
+
+pub first_written : {T : Type 0} (r : Result T LogsNo) (logs written : List LogState) (l k : LogState) (added : List Record) → 0 < length logs → l ≡ get_or logs 0 l → written ≡ set logs 0 k
     → MatchResult r (λ _. IsWritten l k added) (λ no. IsNotWritten l k added no)
-    → MatchResult r (λ _. IsWritten (log_at logs 0) (log_at written 0) added) (λ no. IsNotWritten (log_at logs 0) (log_at written 0) added no)
-wrote_first r [] written l k added some is put said = absurd (omega (arith, some))
-wrote_first r (x ∷ logs) written l k added some is put said =
-    subst (λ (ls : List LogState). MatchResult r (λ _. IsWritten x (log_at ls 0) added) (λ no. IsNotWritten x (log_at ls 0) added no)) (sym put)
-    (subst (λ (y : LogState). MatchResult r (λ _. IsWritten y k added) (λ no. IsNotWritten y k added no)) is said)
+    → MatchResult r (λ _. IsFirstWritten logs written added) (λ no. IsFirstNotWritten logs written added no)
+first_written (Ok x) logs written l k added some is put said = record {
+  many = ap (λ (ls : List LogState). length ls) put ∙ set_long logs k;
+  written = subst (λ (ls : List LogState). IsWritten (log_at logs 0) (log_at ls 0) added) (sym put)
+      (subst (λ (y : LogState). IsWritten (log_at logs 0) y added) (sym (set_first logs k some))
+      (subst (λ (y : LogState). IsWritten y k added) (sym (first_at logs l some is)) said));
+  others = λ d not. ap (λ (ls : List LogState). log_at ls d) put ∙ set_others logs k d not;
+}
+first_written (Err answer) logs written l k added some is put said = record {
+  many = ap (λ (ls : List LogState). length ls) put ∙ set_long logs k;
+  not_written = subst (λ (ls : List LogState). IsNotWritten (log_at logs 0) (log_at ls 0) added answer) (sym put)
+      (subst (λ (y : LogState). IsNotWritten (log_at logs 0) y added answer) (sym (set_first logs k some))
+      (subst (λ (y : LogState). IsNotWritten y k added answer) (sym (first_at logs l some is)) said));
+  others = λ d not. ap (λ (ls : List LogState). log_at ls d) put ∙ set_others logs k d not;
+}

@@ -13,7 +13,6 @@ use Rattle.snap_recover.specs.declared.causes.LogCause.TheVariants as cause
 use Rattle.snap_recover.specs.declared.causes.What.{What}
 use Rattle.snap_recover.specs.declared.causes.What.TheVariants.{Actors, Field}
 use Rattle.log_opening.specs.Found.{IsFoldCause}
-use Rattle.log_opening.specs.Kept.{IsSaid}
 use Rattle.run_opening.specs.declared.comparisons.TheConstants.{GREATEST_TO_BEGIN}
 
 -- ---- what a run may begin with
@@ -31,10 +30,6 @@ pub record IsUnspent (o : Opening) : Type 0 where
 -- no log has a record
 abbrev pub AreEmpty : List (List Record) → Type 0
 AreEmpty logs = AllByRecursion (λ (rs : List Record). rs ≡ []) logs
-
--- logs as runs leave them: none has a record, or log 0 says how many there are
-abbrev pub AreOfRuns : List (List Record) → Type 0
-AreOfRuns logs = AreEmpty logs ⊎ IsSaid logs
 
 -- the first run on these logs began with these states
 abbrev pub BeganWith : List (List Record) → List State → Type 0

@@ -1,5 +1,5 @@
 -- What is written before a run, and why there is none.
-use Rattle.std.specs.Prelude.{◌≡◌, ◌⊎◌, ℕ, List, [], ◌∷◌, length, ⊤}
+use Rattle.std.specs.Prelude.{◌≡◌, ◌+◌, ◌⊎◌, ℕ, List, [], ◌∷◌, length, ⊤}
 use Rattle.snap_base.specs.declared.transactions.State.{State}
 use Rattle.txn_records.specs.declared.records.Record.{Record}
 use Rattle.txn_records.specs.declared.records.Record.TheVariants.{Genesis}
@@ -18,8 +18,8 @@ IsStart logs states o added =
     (AreEmpty logs × (o ≡ fresh_opening states) × (added ≡ first_record (length logs) states ∷ []))
     ⊎ (GoesOn logs states o × (added ≡ []))
 
--- why a run does not go on from the records of these logs
-abbrev pub IsNoStart : List (List Record) → List State → LogsNo → Type 0
-IsNoStart logs states (ending.Refused log offset c) = (offset ≡ 0) × (¬ AreEmpty logs) × IsCause logs states log c
-IsNoStart logs states (ending.Device log) = ⊥
-IsNoStart logs states ending.Memory = ⊤
+-- why a run does not go on from the records of these logs, the first of which lies on the head
+abbrev pub IsNoStart : ℕ → List (List Record) → List State → LogsNo → Type 0
+IsNoStart head logs states (ending.Refused log offset c) = (offset ≡ 0) × (¬ AreEmpty logs) × ((number : ℕ) × (log ≡ head + number) × IsCause logs states number c)
+IsNoStart head logs states (ending.Device log) = ⊥
+IsNoStart head logs states ending.Memory = ⊤

@@ -1,13 +1,11 @@
-//! Laws of a run's beginning: it begins again alike, and other devices get no call.
-ghost use Rattle.std.specs.Prelude.{◌≡◌, ℕ, ◌≤◌, List, length, drop};
+//! A law of a run's beginning: it begins again alike.
+ghost use Rattle.std.specs.Prelude.{◌≤◌, List, length};
 ghost use Rattle.snap_base.specs.declared.transactions.State.{State};
 ghost use Rattle.txn_records.specs.declared.records.Record.{Record};
 ghost use Rattle.snap_recover.specs.declared.openings.Opening.{Opening};
-ghost use Rattle.log_opening.specs.Devices.{Device};
-ghost use Rattle.log_opening.specs.declared.refusals.LogsNo.{LogsNo};
 ghost use Rattle.run_opening.specs.Begins.{Begins};
 ghost use Rattle.run_opening.specs.Starts.{IsStart};
-ghost use Rattle.run_opening.specs.Opens.{IsNoRun, with_first};
+ghost use Rattle.run_opening.specs.Opens.{with_first};
 
 use log_compact::begun_lists_fold;
 
@@ -19,8 +17,3 @@ pub fn begins_again()
 {
     begun_lists_fold();
 }
-
-/// Where no run begins, whatever the answer is, the devices behind its logs got no call.
-pub fn others_get_no_call()
-    ensures { (count : ℕ) (states : List State) (before after : List Device) (no : LogsNo) → IsNoRun count states before after no → drop count after ≡ drop count before }
-{}

@@ -1,5 +1,5 @@
 //! What a run begins with, from the records of its logs.
-ghost use Rattle.std.specs.Prelude.{◌≡◌, ◌≤◌, List, [], ◌∷◌, length, IsTrue, ◌↔◌, IfOk, MatchOption, MatchResult};
+ghost use Rattle.std.specs.Prelude.{◌≡◌, ◌+◌, ◌≤◌, List, [], ◌∷◌, length, IsTrue, ◌↔◌, IfOk, MatchOption, MatchResult};
 ghost use Rattle.txn_records.specs.declared.limits.TheConstants.{MOST_LISTED};
 ghost use Rattle.txn_records.specs.declared.records.Record.{Record};
 ghost use Rattle.log_compact.specs.Sets.{IsFolded};
@@ -23,16 +23,17 @@ pub struct Start {
     pub added: Sequence<Record>,
 }
 
-/// What a run of a text with these states begins with, on logs of these records; or the log and the cause for which it does
-/// not begin.
+/// What a run of a text with these states begins with, on logs of these records, the first of which lies on this device; or
+/// the log, by its device, and the cause for which it does not begin.
 pub fn start_from(
     alloc: Global,
     logs: Sequence<Sequence<Record>>,
     states: &[State],
+    head: u8,
 ) -> Result<Start, LogsNo>
-    requires logs { length logs ≤ 4 }
+    requires logs { head + length logs ≤ 4 }
     requires few { length states.now ≤ MOST_LISTED }
-    ensures { MatchResult result (λ s. IsStart logs states.now s.opening s.added) (λ no. IsNoStart logs states.now no) }
+    ensures { MatchResult result (λ s. IsStart logs states.now s.opening s.added) (λ no. IsNoStart head logs states.now no) }
 {
     if all_empty(logs.as_slice()) {
         return match first_start(alloc, logs.len() as u8, states) {
@@ -40,7 +41,7 @@ pub fn start_from(
             Err(Memory) => Err(LogsNo::Memory),
         };
     }
-    match go_on(alloc, logs, states) {
+    match go_on(alloc, logs, states, head) {
         Ok(opening) => Ok(Start {
             opening,
             added: Sequence::new(alloc),
@@ -75,23 +76,25 @@ fn first_start(alloc: Global, logs: u8, states: &[State]) -> Result<Start, Memor
     Ok(Start { opening, added })
 }
 
-/// What a run of a text with these states goes on with from the records of the logs.
+/// What a run of a text with these states goes on with from the records of the logs, the first of which lies on this device.
 fn go_on(
     alloc: Global,
     logs: Sequence<Sequence<Record>>,
     states: &[State],
+    head: u8,
 ) -> Result<Opening, LogsNo>
+    requires logs { head + length logs ≤ 4 }
     requires some { ¬ AreEmpty logs }
     requires few { length states.now ≤ MOST_LISTED }
-    ensures { MatchResult result (λ o. GoesOn logs states.now o) (λ no. IsNoStart logs states.now no) }
+    ensures { MatchResult result (λ o. GoesOn logs states.now o) (λ no. IsNoStart head logs states.now no) }
 {
-    let folded = match fold_records(alloc, logs) {
+    let folded = match fold_records(alloc, logs, head) {
         Ok(folded) => folded,
         Err(no) => return Err(no),
     };
     match objection(&folded, states) {
         Some(cause) => Err(LogsNo::Refused {
-            log: 0,
+            log: head,
             offset: 0,
             cause,
         }),

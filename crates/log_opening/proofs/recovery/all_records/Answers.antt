@@ -10,8 +10,8 @@ pub returns-clause-read : goal.returns-clause-read
 returns-clause-read g c =
     let told = g.D.LogDev.told in
     let faults = g.D.LogDev.faults in
-    read_back (devices_of told faults c.args.devices.now.items) (devices_of told faults c.close.new.devices.items)
+    read_back c.open_and_read-answer.result (λ x. x.1.head) (λ x. x.0) (devices_of told faults c.args.devices.now.items) (devices_of told faults c.close.new.devices.items)
     (devices_now told faults c.open_and_read-answer.new.opened.logs.items c.open_and_read-answer.new.devices.items)
-    (devices_now told faults c.in-Ok.opened.logs.items c.args.devices.now.items) c.open_and_read-answer.result
+    (devices_now told faults c.in-Ok.opened.logs.items c.args.devices.now.items)
     (ap (λ (l : List _). devices_now told faults l c.args.devices.now.items) c.in-Ok.ensures.logs)
     c.close.ensures.devices c.open_and_read-answer.ensures.read

@@ -1,17 +1,25 @@
 use Rattle.log_opening.specs.Devices.{devices_of}
 use Rattle.log_opening.proofs.Opening.{touched_opened, touched_safe, touched_later}
-use Rattle.log_opening.proofs.Flow.{read_refused, read_few}
+use Rattle.log_opening.proofs.Flow.{fold_few, fold_given, fold_refused}
 use Rattle.log_opening.proofs.recovery.recover_kept.Goals as goal
+
+pub fold_records-requires : goal.fold_records-requires
+fold_records-requires g c = c.in-Ok.ensures.within.0
+
+pub returns-in-Ok-clause-recovered : goal.returns-in-Ok-clause-recovered
+returns-in-Ok-clause-recovered g c =
+    fold_given (devices_of g.D.LogDev.told g.D.LogDev.faults c.args.devices.now.items) (devices_of g.D.LogDev.told g.D.LogDev.faults c.all_records.new.devices.items)
+    c.in-Ok.found.head c.in-Ok.lists c.in-Ok.ensures.read c.fold_records.result c.fold_records.ensures
 
 pub returns-in-Ok-clause-refused : goal.returns-in-Ok-clause-refused
 returns-in-Ok-clause-refused g c =
-    read_refused (devices_of g.D.LogDev.told g.D.LogDev.faults c.args.devices.now.items) (devices_of g.D.LogDev.told g.D.LogDev.faults c.all_records.new.devices.items)
-    c.in-Ok.logs c.fold_records.result c.in-Ok.ensures.read c.fold_records.ensures
+    fold_refused (devices_of g.D.LogDev.told g.D.LogDev.faults c.args.devices.now.items) (devices_of g.D.LogDev.told g.D.LogDev.faults c.all_records.new.devices.items)
+    c.in-Ok.found.head c.in-Ok.lists c.in-Ok.ensures.read c.fold_records.result c.fold_records.ensures
 
 pub returns-in-Ok-clause-actors : goal.returns-in-Ok-clause-actors
 returns-in-Ok-clause-actors g c =
-    read_few (devices_of g.D.LogDev.told g.D.LogDev.faults c.args.devices.now.items) (devices_of g.D.LogDev.told g.D.LogDev.faults c.all_records.new.devices.items)
-    c.in-Ok.logs c.fold_records.result c.folds_are_of_records.ensures c.in-Ok.ensures.read c.fold_records.ensures
+    fold_few (devices_of g.D.LogDev.told g.D.LogDev.faults c.args.devices.now.items) (devices_of g.D.LogDev.told g.D.LogDev.faults c.all_records.new.devices.items)
+    c.in-Ok.found.head c.in-Ok.lists c.in-Ok.ensures.read c.folds_are_of_records.ensures c.fold_records.result c.fold_records.ensures
 
 pub returns-in-Ok-clause-opened : goal.returns-in-Ok-clause-opened
 returns-in-Ok-clause-opened g c = touched_opened _ _ c.in-Ok.ensures.read.touched

@@ -1,9 +1,10 @@
-use Rattle.std.proofs.Common.{List, sym, subst, arith}
+use Rattle.std.proofs.Common.{List, sym, subst, rules, length, ◌+◌, ◌≤◌}
 use Rattle.gate_log.specs.State.{LogState}
 use Rattle.log_opening.specs.Devices.{Device, devices_of, devices_now}
-use Rattle.run_opening.specs.Writes.{HasOpenedRun, HasOpenedNoRun}
-use Rattle.run_opening.proofs.RunOpening.{nothing_done, devices_long, rest_behind}
+use Rattle.run_opening.specs.Writes.{HasOpenedNoRun}
+use Rattle.run_opening.proofs.RunOpening.{nothing_done}
 use Rattle.run_opening.proofs.Completing as completing
+use Rattle.run_opening.proofs.Taking.{run_taken}
 use Rattle.run_opening.proofs.opens.open_run.Goals as goal
 
 pub returns-in_default-clause-refused : goal.returns-in_default-clause-refused
@@ -32,10 +33,10 @@ returns-in-Ok-begin_on-clause-opens g c =
     let told = g.D.LogDev.told in
     let faults = g.D.LogDev.faults in
     let logs = c.begin_on.new.opened.logs.items in
-    let after : List Device = devices_now told faults logs c.begin_on.new.devices.items in
-    let begun : HasOpenedRun c.args.count c.args.states.now (devices_of told faults c.args.devices.now.items) after logs c.in-Ok-begin_on.opening =
-    subst (λ (l : List LogState). HasOpenedRun c.args.count c.args.states.now (devices_now told faults l c.args.devices.now.items) after logs c.in-Ok-begin_on.opening)
-    c.in-Ok.ensures.logs c.in-Ok-begin_on.ensures.begun in
+    let head = c.in-Ok-begin_on.head in
+    let within : head + c.args.count ≤ length logs = search rules in
+    let begun = run_taken told faults c.args.count head c.args.states.now c.in-Ok-begin_on.opening c.in-Ok.opened.logs.items logs c.take_out-logs.result.items c.args.devices.now.items c.begin_on.new.devices.items c.take_out-logs.new.devices.items
+    c.in-Ok.ensures.logs (search rules) within c.take_out-logs.ensures.devices c.take_out-logs.ensures.logs c.in-Ok-begin_on.ensures.begun in
     begun.opens
 
 pub returns-in-Ok-begin_on-clause-room : goal.returns-in-Ok-begin_on-clause-room
@@ -43,10 +44,10 @@ returns-in-Ok-begin_on-clause-room g c =
     let told = g.D.LogDev.told in
     let faults = g.D.LogDev.faults in
     let logs = c.begin_on.new.opened.logs.items in
-    let after : List Device = devices_now told faults logs c.begin_on.new.devices.items in
-    let begun : HasOpenedRun c.args.count c.args.states.now (devices_of told faults c.args.devices.now.items) after logs c.in-Ok-begin_on.opening =
-    subst (λ (l : List LogState). HasOpenedRun c.args.count c.args.states.now (devices_now told faults l c.args.devices.now.items) after logs c.in-Ok-begin_on.opening)
-    c.in-Ok.ensures.logs c.in-Ok-begin_on.ensures.begun in
+    let head = c.in-Ok-begin_on.head in
+    let within : head + c.args.count ≤ length logs = search rules in
+    let begun = run_taken told faults c.args.count head c.args.states.now c.in-Ok-begin_on.opening c.in-Ok.opened.logs.items logs c.take_out-logs.result.items c.args.devices.now.items c.begin_on.new.devices.items c.take_out-logs.new.devices.items
+    c.in-Ok.ensures.logs (search rules) within c.take_out-logs.ensures.devices c.take_out-logs.ensures.logs c.in-Ok-begin_on.ensures.begun in
     begun.room
 
 pub returns-in-Ok-begin_on-clause-actors : goal.returns-in-Ok-begin_on-clause-actors
@@ -54,10 +55,10 @@ returns-in-Ok-begin_on-clause-actors g c =
     let told = g.D.LogDev.told in
     let faults = g.D.LogDev.faults in
     let logs = c.begin_on.new.opened.logs.items in
-    let after : List Device = devices_now told faults logs c.begin_on.new.devices.items in
-    let begun : HasOpenedRun c.args.count c.args.states.now (devices_of told faults c.args.devices.now.items) after logs c.in-Ok-begin_on.opening =
-    subst (λ (l : List LogState). HasOpenedRun c.args.count c.args.states.now (devices_now told faults l c.args.devices.now.items) after logs c.in-Ok-begin_on.opening)
-    c.in-Ok.ensures.logs c.in-Ok-begin_on.ensures.begun in
+    let head = c.in-Ok-begin_on.head in
+    let within : head + c.args.count ≤ length logs = search rules in
+    let begun = run_taken told faults c.args.count head c.args.states.now c.in-Ok-begin_on.opening c.in-Ok.opened.logs.items logs c.take_out-logs.result.items c.args.devices.now.items c.begin_on.new.devices.items c.take_out-logs.new.devices.items
+    c.in-Ok.ensures.logs (search rules) within c.take_out-logs.ensures.devices c.take_out-logs.ensures.logs c.in-Ok-begin_on.ensures.begun in
     begun.actors
 
 pub returns-in-Ok-begin_on-clause-kept : goal.returns-in-Ok-begin_on-clause-kept
@@ -65,10 +66,10 @@ returns-in-Ok-begin_on-clause-kept g c =
     let told = g.D.LogDev.told in
     let faults = g.D.LogDev.faults in
     let logs = c.begin_on.new.opened.logs.items in
-    let after : List Device = devices_now told faults logs c.begin_on.new.devices.items in
-    let begun : HasOpenedRun c.args.count c.args.states.now (devices_of told faults c.args.devices.now.items) after logs c.in-Ok-begin_on.opening =
-    subst (λ (l : List LogState). HasOpenedRun c.args.count c.args.states.now (devices_now told faults l c.args.devices.now.items) after logs c.in-Ok-begin_on.opening)
-    c.in-Ok.ensures.logs c.in-Ok-begin_on.ensures.begun in
+    let head = c.in-Ok-begin_on.head in
+    let within : head + c.args.count ≤ length logs = search rules in
+    let begun = run_taken told faults c.args.count head c.args.states.now c.in-Ok-begin_on.opening c.in-Ok.opened.logs.items logs c.take_out-logs.result.items c.args.devices.now.items c.begin_on.new.devices.items c.take_out-logs.new.devices.items
+    c.in-Ok.ensures.logs (search rules) within c.take_out-logs.ensures.devices c.take_out-logs.ensures.logs c.in-Ok-begin_on.ensures.begun in
     begun.kept
 
 pub returns-in-Ok-begin_on-clause-ends : goal.returns-in-Ok-begin_on-clause-ends
@@ -76,10 +77,10 @@ returns-in-Ok-begin_on-clause-ends g c =
     let told = g.D.LogDev.told in
     let faults = g.D.LogDev.faults in
     let logs = c.begin_on.new.opened.logs.items in
-    let after : List Device = devices_now told faults logs c.begin_on.new.devices.items in
-    let begun : HasOpenedRun c.args.count c.args.states.now (devices_of told faults c.args.devices.now.items) after logs c.in-Ok-begin_on.opening =
-    subst (λ (l : List LogState). HasOpenedRun c.args.count c.args.states.now (devices_now told faults l c.args.devices.now.items) after logs c.in-Ok-begin_on.opening)
-    c.in-Ok.ensures.logs c.in-Ok-begin_on.ensures.begun in
+    let head = c.in-Ok-begin_on.head in
+    let within : head + c.args.count ≤ length logs = search rules in
+    let begun = run_taken told faults c.args.count head c.args.states.now c.in-Ok-begin_on.opening c.in-Ok.opened.logs.items logs c.take_out-logs.result.items c.args.devices.now.items c.begin_on.new.devices.items c.take_out-logs.new.devices.items
+    c.in-Ok.ensures.logs (search rules) within c.take_out-logs.ensures.devices c.take_out-logs.ensures.logs c.in-Ok-begin_on.ensures.begun in
     begun.ends
 
 pub returns-in-Ok-begin_on-clause-safe : goal.returns-in-Ok-begin_on-clause-safe
@@ -87,10 +88,10 @@ returns-in-Ok-begin_on-clause-safe g c =
     let told = g.D.LogDev.told in
     let faults = g.D.LogDev.faults in
     let logs = c.begin_on.new.opened.logs.items in
-    let after : List Device = devices_now told faults logs c.begin_on.new.devices.items in
-    let begun : HasOpenedRun c.args.count c.args.states.now (devices_of told faults c.args.devices.now.items) after logs c.in-Ok-begin_on.opening =
-    subst (λ (l : List LogState). HasOpenedRun c.args.count c.args.states.now (devices_now told faults l c.args.devices.now.items) after logs c.in-Ok-begin_on.opening)
-    c.in-Ok.ensures.logs c.in-Ok-begin_on.ensures.begun in
+    let head = c.in-Ok-begin_on.head in
+    let within : head + c.args.count ≤ length logs = search rules in
+    let begun = run_taken told faults c.args.count head c.args.states.now c.in-Ok-begin_on.opening c.in-Ok.opened.logs.items logs c.take_out-logs.result.items c.args.devices.now.items c.begin_on.new.devices.items c.take_out-logs.new.devices.items
+    c.in-Ok.ensures.logs (search rules) within c.take_out-logs.ensures.devices c.take_out-logs.ensures.logs c.in-Ok-begin_on.ensures.begun in
     begun.safe
 
 pub returns-in-Ok-begin_on-clause-later : goal.returns-in-Ok-begin_on-clause-later
@@ -98,10 +99,10 @@ returns-in-Ok-begin_on-clause-later g c =
     let told = g.D.LogDev.told in
     let faults = g.D.LogDev.faults in
     let logs = c.begin_on.new.opened.logs.items in
-    let after : List Device = devices_now told faults logs c.begin_on.new.devices.items in
-    let begun : HasOpenedRun c.args.count c.args.states.now (devices_of told faults c.args.devices.now.items) after logs c.in-Ok-begin_on.opening =
-    subst (λ (l : List LogState). HasOpenedRun c.args.count c.args.states.now (devices_now told faults l c.args.devices.now.items) after logs c.in-Ok-begin_on.opening)
-    c.in-Ok.ensures.logs c.in-Ok-begin_on.ensures.begun in
+    let head = c.in-Ok-begin_on.head in
+    let within : head + c.args.count ≤ length logs = search rules in
+    let begun = run_taken told faults c.args.count head c.args.states.now c.in-Ok-begin_on.opening c.in-Ok.opened.logs.items logs c.take_out-logs.result.items c.args.devices.now.items c.begin_on.new.devices.items c.take_out-logs.new.devices.items
+    c.in-Ok.ensures.logs (search rules) within c.take_out-logs.ensures.devices c.take_out-logs.ensures.logs c.in-Ok-begin_on.ensures.begun in
     begun.later
 
 pub returns-in-Err-clause-refused : goal.returns-in-Err-clause-refused
@@ -151,15 +152,14 @@ returns-in-Err-clause-complete g c =
     (subst (λ (l : List LogState). HasOpenedNoRun c.args.count c.args.states.now (devices_now told faults l c.args.devices.now.items) after c.in-Err.no)
     c.in-Ok.ensures.logs c.in-Err.ensures.begun) in
     let laws : completing.Laws = record {
+      lists = c.one_list.ensures;
+      differs = c.one_difference.ensures.no_log;
+      damaged = c.damage_is_no_log.ensures;
+      one_record = c.one_record.ensures;
       one_list = c.one_list_of_records.ensures;
-      foreign = c.no_more_records.ensures.foreign;
-      damaged = c.no_more_records.ensures.damaged;
       bad = c.no_more_records.ensures.bad;
+      one_set = c.one_set.ensures;
       one_fold = c.one_fold.ensures;
       never_both = c.refused_are_not_folded.ensures;
     } in
-    λ records o may. completing.completed laws c.args.count c.args.states.now before (devices_of told faults c.close.new.devices.items) records o (omega (arith, devices_long told faults c.args.devices.now.items, c.requires.four, c.requires.few_logs, c.args.devices.now.ok.0)) may (omega (arith, c.requires.some_logs)) c.in-Err.no ended.why
-
-pub returns-in-Err-clause-rest_back : goal.returns-in-Err-clause-rest_back
-returns-in-Err-clause-rest_back g c =
-    rest_behind c.args.count _ c.args.devices.now.items c.begin_on.new.devices.items c.close.new.devices.items c.begin_on.ensures.at_most c.close.ensures.rest c.begin_on.ensures.rest
+    λ records o may. completing.completed laws c.args.count c.args.states.now before (devices_of told faults c.close.new.devices.items) records o c.requires.some_logs c.requires.few_logs may c.in-Err.no ended.why

@@ -2,7 +2,7 @@ use Rattle.std.proofs.Common.{sym, subst}
 use Rattle.log_opening.specs.declared.refusals.LogsNo.{LogsNo}
 use Rattle.run_opening.specs.Writes.{IsNotWritten}
 use Rattle.run_opening.proofs.Writing.{may_write, wrote, not_wrote}
-use Rattle.run_opening.proofs.opens.write.Goals as goal
+use Rattle.run_opening.proofs.preparing.write.Goals as goal
 
 pub append_records-requires-clause-may : goal.append_records-requires-clause-may
 append_records-requires-clause-may g c =
