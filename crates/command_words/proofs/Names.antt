@@ -60,5 +60,23 @@ bench_audit e = let h : 98 ≡ 97 = letter 0 (codes "bench") (codes "audit") e i
 pub migrate_audit : codes "migrate" ≡ codes "audit" → ⊥
 migrate_audit e = let h : 109 ≡ 97 = letter 0 (codes "migrate") (codes "audit") e in omega (arith, h)
 
+pub run_compact : codes "run" ≡ codes "compact" → ⊥
+run_compact e = let h : 114 ≡ 99 = letter 0 (codes "run") (codes "compact") e in omega (arith, h)
+
+pub recover_compact : codes "recover" ≡ codes "compact" → ⊥
+recover_compact e = let h : 114 ≡ 99 = letter 0 (codes "recover") (codes "compact") e in omega (arith, h)
+
+pub gen_compact : codes "gen" ≡ codes "compact" → ⊥
+gen_compact e = let h : 103 ≡ 99 = letter 0 (codes "gen") (codes "compact") e in omega (arith, h)
+
+pub bench_compact : codes "bench" ≡ codes "compact" → ⊥
+bench_compact e = let h : 98 ≡ 99 = letter 0 (codes "bench") (codes "compact") e in omega (arith, h)
+
+pub migrate_compact : codes "migrate" ≡ codes "compact" → ⊥
+migrate_compact e = let h : 109 ≡ 99 = letter 0 (codes "migrate") (codes "compact") e in omega (arith, h)
+
+pub audit_compact : codes "audit" ≡ codes "compact" → ⊥
+audit_compact e = let h : 97 ≡ 99 = letter 0 (codes "audit") (codes "compact") e in omega (arith, h)
+
 pub workers_seed : codes "--workers" ≡ codes "--seed" → ⊥
 workers_seed e = let h : 119 ≡ 115 = letter 2 (codes "--workers") (codes "--seed") e in omega (arith, h)

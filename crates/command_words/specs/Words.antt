@@ -46,9 +46,13 @@ IsRunCommand words n s = (said : Said) × (words ≡ codes "run" ∷ options sai
 abbrev pub IsRecover : List (List ℕ) → Type 0
 IsRecover words = words ≡ codes "recover" ∷ []
 
--- makes the logs of format 1 ones of format 2
+-- makes those logs in use that are of format 1 ones of format 2
 abbrev pub IsMigrate : List (List ℕ) → Type 0
 IsMigrate words = words ≡ codes "migrate" ∷ []
+
+-- writes a checkpoint in place of old records
+abbrev pub IsCompact : List (List ℕ) → Type 0
+IsCompact words = words ≡ codes "compact" ∷ []
 
 -- says whether the input is the papers of a run
 abbrev pub IsAudit : List (List ℕ) → Type 0
@@ -70,7 +74,7 @@ IsBench words count s n =
 abbrev pub IsForm : List (List ℕ) → Type 0
 IsForm words =
     ((n s : ℕ) × IsRunCommand words n s)
-    ⊎ (IsRecover words ⊎ (((count s : ℕ) × IsGen words count s) ⊎ (((count s n : ℕ) × IsBench words count s n) ⊎ (IsMigrate words ⊎ IsAudit words))))
+    ⊎ (IsRecover words ⊎ (((count s : ℕ) × IsGen words count s) ⊎ (((count s n : ℕ) × IsBench words count s n) ⊎ (IsMigrate words ⊎ (IsAudit words ⊎ IsCompact words)))))
 
 -- ---- a wrong word
 

@@ -7,8 +7,10 @@ pub enum Command {
     Run { workers: u8, seed: u64 },
     /// Prints what the logs recover to.
     Recover,
-    /// Makes the logs of format 1 ones of format 2.
+    /// Makes those logs in use that are of format 1 ones of format 2.
     Migrate,
+    /// Writes a checkpoint in place of the records that the logs in use hold.
+    Compact,
     /// Says whether the input is the papers of a run.
     Audit,
     /// Prints the text of so many transactions that the seed draws.

@@ -29,6 +29,9 @@ pub fn read_words(words: &[String]) -> Result<Command, u32>
     if word == "migrate" {
         return read_migrate(rest);
     }
+    if word == "compact" {
+        return read_compact(rest);
+    }
     if word == "audit" {
         return read_audit(rest);
     }
@@ -59,6 +62,16 @@ fn read_migrate(words: &[String]) -> Result<Command, u32>
         return Err(1);
     }
     Ok(Command::Migrate)
+}
+
+/// The words behind `compact`: there may be none.
+fn read_compact(words: &[String]) -> Result<Command, u32>
+    ensures { MatchResult result (IsCommand (codes "compact" ∷ map string_bytes words.now)) (IsUsageFault (codes "compact" ∷ map string_bytes words.now)) }
+{
+    if !words.is_empty() {
+        return Err(1);
+    }
+    Ok(Command::Compact)
 }
 
 /// The words behind `audit`: there may be none.
