@@ -1,31 +1,37 @@
 -- What a crash leaves of each log while a run begins.
-use Rattle.std.specs.Prelude.{◌≡◌, refl, ℕ, zero, suc, ◌<◌, ◌≤◌, ◌⊎◌, Option, Some, None, List, [], ◌∷◌, ◌++◌, length, IfSome}
+use Rattle.std.specs.Prelude.{◌≡◌, refl, ℕ, zero, suc, ◌+◌, ◌<◌, ◌≤◌, ◌⊎◌, Option, Some, None, List, [], ◌∷◌, ◌++◌, length, IfSome}
 use Rattle.std.proofs.Common.{inl, inr, arith, sym, ap, subst, ◌∙◌}
 use Rattle.std.proofs.lemmas.List.{append-nil}
 use Rattle.std.proofs.lemmas.List.Concat.{flat_map-cons}
 use Rattle.run_effects.specs.Driven.{tried_on}
 use Rattle.snap_base.specs.declared.transactions.State.{State}
 use Rattle.record_log.specs.gate_log.Opened.{Opened, beginning_ops}
+use Rattle.run_opening.specs.log_opening.Cuts.{HoldFour, IsCutCall}
 use Rattle.run_opening.specs.log_opening.Devices.{device_at}
 use Rattle.machine_recovery.specs.compact_laws.log_compact.declared.folds.Folded.{Folded}
-use Rattle.machine_recovery.specs.compact_laws.log_compact.Sets.{IsFolded}
+use Rattle.machine_recovery.specs.compact_laws.log_compact.Compacting.{IsOnSide}
+use Rattle.machine_recovery.specs.compact_laws.log_compact.Finding.{IsLeftByRuns, IsUsed}
+use Rattle.machine_recovery.specs.compact_laws.log_compact.Sets.{IsFolded, IsSet, logs_from}
 use Rattle.record_log.specs.Growth.{GrewBy, HoldsWhole, IsGrowth, Leaves, LeavesGroups, MayAppendGroups, all_records, groups_ops}
 use Rattle.record_log.specs.GrowthLaws.{GrowthKeeps}
 use Rattle.record_log.specs.Records.{HoldsRecords, spelled}
 use Rattle.record_log.specs.gate_log.Appends.{end_behind}
-use Rattle.run_opening.specs.Begins.{AreEmpty, AreOfRuns, Begins}
+use Rattle.run_opening.specs.Begins.{AreEmpty, Begins}
 use Rattle.run_opening.specs.Opens.{first_groups, records_at, with_first}
-use Rattle.run_opening.specs.Starts.{IsStart}
+use Rattle.run_opening.specs.Starts.{IsStart, first_record}
 use Rattle.run_effects.specs.Groups.{group_behind, groups_of}
 use Rattle.record_log.specs.snap_outside.declared.devices.DevOp.{DevOp}
-use Rattle.record_log.specs.snap_outside.Disk.{DeviceHistory, IsImage, content, disk, disk_after, settled}
+use Rattle.record_log.specs.snap_outside.Disk.{DeviceHistory, content}
 use Rattle.snap_recover.specs.declared.openings.Opening.{Opening}
 use Rattle.snap_work.specs.Kept.{KeepsLimits}
 use Rattle.record_log.specs.txn_records.declared.records.Record.{Record}
-use Rattle.run_recovery.specs.Beginnings.{BeginsAgain, CrashBefore, HoldEach, AreMadeFirst, KeepsOrBegins}
+use Rattle.run_recovery.specs.Beginnings.{BeginsAgain, CrashBefore, AreMadeFirst, KeepsOrBegins}
+use Rattle.run_recovery.specs.Crashes.{FindsRunsLogs}
 use Rattle.run_recovery.specs.OneRun.{TheRun, machine_in}
 use Rattle.run_recovery.specs.Runs.{IsRunDevice}
-use Rattle.run_recovery.proofs.SaidLogs.{said_written}
+use Rattle.run_recovery.proofs.FourDevices.{TellAll, left_set, lists_from, numbered, on_side, placed, placed_at, placed_in, placed_out, within_four}
+use Rattle.run_recovery.proofs.FoundFour.{AsidesLeft, FourLaws, aside_left, asides_left, begun_set}
+use Rattle.run_recovery.proofs.LogsLeft.{first_long}
 
 -- ---- the first groups alone
 
@@ -78,11 +84,22 @@ log_left : (bytes : List ℕ) (end l : ℕ) (rs added : List Record) (made : Lis
 log_left bytes end l rs added made image (inl cut) = inl cut.1
 log_left bytes end l rs added made image (inr x) = groups_left end l rs added x.0 image x.2
 
-each_left : GrowthKeeps → (r : TheRun) (images : ℕ → List ℕ) → CrashBefore r images → (l : ℕ) → l < r.work.logs → Left l (records_at r.devices.records l) r.devices.added (images l)
-each_left keeps r images crash l lt =
-    log_left (content h) here.end l rs r.devices.added (crash.made l) (images l)
-    (keeps h here.opened.0 here.end here.opened.1 rs first None (beginning_ops (content h) ++ groups_ops here.end first) opened c.2 held (first_growth (content h) here.end first may) (crash.made l) c.3.0 c.3.1 (images l) c.4)
+-- the image of the device on which a log lies
+abbrev image_of : (r : TheRun) → (ℕ → List ℕ) → ℕ → List ℕ
+image_of r images l = images (r.devices.head + l)
+
+each_left : GrowthKeeps → (r : TheRun) (images : ℕ → List ℕ) → CrashBefore r images → r.devices.head + r.work.logs ≤ 4 → (l : ℕ) → l < r.work.logs
+    → Left l (records_at r.devices.records l) r.devices.added (image_of r images l)
+each_left keeps r images crash within l lt =
+    log_left (content h) here.end l rs r.devices.added (crash.made d) (images d)
+    (keeps h here.opened.0 here.end here.opened.1 rs first None (beginning_ops (content h) ++ groups_ops here.end first) opened cut.durable held (first_growth (content h) here.end first may) (crash.made d) made.0 made.1 (images d) cut.left)
   where
+    d : ℕ
+    d = r.devices.head + l
+
+    low : r.devices.head + l < 4
+    low = omega (arith, within, lt)
+
     first : List (List Record)
     first = first_groups l r.devices.added
 
@@ -95,25 +112,28 @@ each_left keeps r images crash l lt =
     tried : Option (List Record)
     tried = tried_on r.failed l (group_behind (machine_in r) l r.events)
 
-    here : IsRunDevice (device_at r.before l) (device_at r.after l) rs (first ++ groups) tried
+    here : IsRunDevice (device_at r.before d) (device_at r.after d) rs (first ++ groups) tried
     here = r.devices.each l lt
 
-    c : (h : DeviceHistory) × ((device_at r.before l).told ≡ Some h) × (disk h ≡ settled (content h)) × AreMadeFirst (crash.made l) (beginning_ops (content h) ++ groups_ops here.end first) × IsImage (disk_after (crash.made l) (disk h)) (images l)
-    c = crash.each l lt
+    cut : IsCutCall (device_at r.before d) (crash.held d) (crash.made d) (images d)
+    cut = (crash.each d low).0
 
     h : DeviceHistory
-    h = c.0
+    h = cut.history
+
+    made : AreMadeFirst (crash.made d) (beginning_ops (content h) ++ groups_ops here.end first)
+    made = (crash.each d low).1.in_use l lt refl
 
     opened : Opened (Some h) here.opened.0 here.end here.opened.1
-    opened = subst (λ t. Opened t here.opened.0 here.end here.opened.1) c.1 here.opened.2
+    opened = subst (λ t. Opened t here.opened.0 here.end here.opened.1) cut.told here.opened.2
 
     held : HoldsRecords (content h) rs
-    held = subst (λ t. IfSome t (λ h. HoldsRecords (content h) rs)) c.1 here.held
+    held = subst (λ t. IfSome t (λ h. HoldsRecords (content h) rs)) cut.told here.held
 
     may : MayAppendGroups here.end first
     may =
-        grew_first h (device_at r.after l).told here.end first groups tried
-        (subst (λ t. GrewBy t (device_at r.after l).told here.end (first ++ groups) tried) c.1 here.grew)
+        grew_first h (device_at r.after d).told here.end first groups tried
+        (subst (λ t. GrewBy t (device_at r.after d).told here.end (first ++ groups) tried) cut.told here.grew)
 
 -- ---- all logs
 
@@ -128,10 +148,9 @@ Written = (logs : List (List Record)) (states : List State) (o : Opening) (added
 record AllLeft (count : ℕ) (records : List (List Record)) (states : List State) (o : Opening) (f : Folded) (images : ℕ → List ℕ) : Type 0 where
   kept : List (List Record)
   which : KeepsOrBegins (length records) states records kept
-  holds : HoldEach count images kept
+  holds : (l : ℕ) → l < count → HoldsRecords (images l) (records_at kept l)
   begins : Begins kept states o
   folds : ¬ AreEmpty kept → IsFolded kept f
-  said : AreOfRuns records → AreOfRuns kept
 
 -- on the logs behind log 0
 others_left : (l : ℕ) (rs added : List Record) (image : List ℕ) → Left (suc l) rs added image → HoldsRecords image rs
@@ -151,12 +170,11 @@ all_left unwritten written count (rs ∷ rss) states o f added images some many 
   holds = λ l lt. nothing_left l (records_at (rs ∷ rss) l) added (images l) on.1 (left l lt);
   begins = unwritten (rs ∷ rss) states o added (inr on);
   folds = λ filled. subst (λ (l : List Record). IsFolded (l ∷ rss) f) (ap (λ (l : List Record). rs ++ l) on.1 ∙ append-nil rs) folded;
-  said = λ own. own;
 }
 all_left unwritten written count (rs ∷ rss) states o f added images some many (inl new) folded left = by (left 0 some)
   where
     by : Left 0 rs added (images 0) → AllLeft count (rs ∷ rss) states o f images
-    by (inl held) = record { kept = rs ∷ rss; which = inl refl; holds = same; begins = unwritten (rs ∷ rss) states o added (inl new); folds = λ filled. absurd (filled new.0); said = λ own. own }
+    by (inl held) = record { kept = rs ∷ rss; which = inl refl; holds = same; begins = unwritten (rs ∷ rss) states o added (inl new); folds = λ filled. absurd (filled new.0) }
       where
         same : (l : ℕ) → l < count → HoldsRecords (images l) (records_at (rs ∷ rss) l)
         same zero lt = held
@@ -167,22 +185,86 @@ all_left unwritten written count (rs ∷ rss) states o f added images some many 
       holds = one_more;
       begins = written (rs ∷ rss) states o added (omega arith) (inl new);
       folds = λ filled. folded;
-      said = λ own. inr (said_written (rs ∷ rss) states o added (omega arith) (inl new) own);
     }
       where
         one_more : (l : ℕ) → l < count → HoldsRecords (images l) (records_at ((rs ++ added) ∷ rss) l)
         one_more zero lt = more.1
         one_more (suc l) lt = others_left l (records_at rss l) added (images (suc l)) (left (suc l) lt)
 
-pub begins_again : GrowthKeeps → Unwritten → Written → (r : TheRun) (images : ℕ → List ℕ) → KeepsLimits r.work → CrashBefore r images → BeginsAgain r images
-begins_again keeps unwritten written r images limits crash =
-    let devices = r.devices in
-    let all = all_left unwritten written r.work.logs devices.records r.work.states r.opening devices.fold devices.added images limits.logs.0 devices.as_many devices.start devices.folds (each_left keeps r images crash) in
-    record {
-      kept = all.kept;
-      which = subst (λ n. KeepsOrBegins n r.work.states devices.records all.kept) devices.as_many all.which;
-      holds = all.holds;
-      begins = all.begins;
-      folds = all.folds;
-      said = all.said;
-    }
+-- ---- the four devices
+
+-- the logs in use are left with these lists
+record KeptFour (r : TheRun) (images : ℕ → List ℕ) (kept : List (List Record)) : Type 0 where
+  now : ℕ → List Record
+  holds : HoldFour images now
+  lists : logs_from now r.devices.head r.work.logs ≡ kept
+  used : IsUsed now r.work.logs r.devices.head r.work.logs r.devices.generation
+  set : FindsRunsLogs r → IsLeftByRuns now r.devices.head r.work.logs
+
+which_long : (records : List (List Record)) (logs : ℕ) (states : List State) (kept : List (List Record)) → length records ≡ logs → KeepsOrBegins logs states records kept → length kept ≡ logs
+which_long records logs states kept many (inl same) = ap (λ (x : List (List Record)). length x) same ∙ many
+which_long records logs states kept many (inr new) = ap (λ (x : List (List Record)). length x) new.1 ∙ (first_long records (first_record logs states ∷ []) ∙ many)
+
+kept_four : FourLaws → (r : TheRun) (held : ℕ → List Record) (images : ℕ → List ℕ) (kept : List (List Record)) → KeepsLimits r.work → AsidesLeft r held images → KeepsOrBegins r.work.logs r.work.states r.devices.records kept
+    → ((l : ℕ) → l < r.work.logs → HoldsRecords (images (r.devices.head + l)) (records_at kept l)) → KeptFour r images kept
+kept_four laws r held images kept limits asides which each = record {
+  now = placed kept asides.aside r.devices.head r.work.logs;
+  holds = λ d low. holds d low (on_side r.devices.head r.work.logs d);
+  lists = lists_from (placed kept asides.aside r.devices.head r.work.logs) kept r.devices.head r.work.logs (which_long r.devices.records r.work.logs r.work.states kept r.devices.as_many which)
+      (λ l lt. placed_at kept asides.aside r.devices.head r.work.logs l lt);
+  used = used which;
+  set = λ found. set which found;
+}
+  where
+    holds : (d : ℕ) → d < 4 → IsOnSide r.devices.head r.work.logs d ⊎ ¬ IsOnSide r.devices.head r.work.logs d → HoldsRecords (images d) (placed kept asides.aside r.devices.head r.work.logs d)
+    holds d low (inr off) = subst (HoldsRecords (images d)) (sym (placed_out kept asides.aside r.devices.head r.work.logs d off)) (asides.holds d low off)
+    holds d low (inl on) =
+        let n = numbered r.devices.head r.work.logs d on in
+        let is : placed kept asides.aside r.devices.head r.work.logs d ≡ records_at kept n.number = placed_in kept asides.aside r.devices.head r.work.logs d on ∙ ap (λ (j : ℕ). records_at kept j) n.off in
+        subst (HoldsRecords (images d)) (sym is) (subst (λ (j : ℕ). HoldsRecords (images j) (records_at kept n.number)) (sym n.is) (each n.number n.few))
+
+    begun_now : AreEmpty r.devices.records → IsSet (placed (with_first r.devices.records (first_record r.work.logs r.work.states ∷ [])) asides.aside r.devices.head r.work.logs) r.devices.head r.work.logs r.devices.generation
+    begun_now empty = begun_set laws.sets r.devices.records r.work.states asides.aside r.devices.head r.work.logs r.devices.generation r.devices.as_many limits.logs.0 empty asides.used
+
+    used : KeepsOrBegins r.work.logs r.work.states r.devices.records kept → IsUsed (placed kept asides.aside r.devices.head r.work.logs) r.work.logs r.devices.head r.work.logs r.devices.generation
+    used (inl same) = subst (λ (k : List (List Record)). IsUsed (placed k asides.aside r.devices.head r.work.logs) r.work.logs r.devices.head r.work.logs r.devices.generation) (sym same) asides.used
+    used (inr new) = inl (subst (λ (k : List (List Record)). IsSet (placed k asides.aside r.devices.head r.work.logs) r.devices.head r.work.logs r.devices.generation) (sym new.1) (begun_now new.0))
+
+    set : KeepsOrBegins r.work.logs r.work.states r.devices.records kept → FindsRunsLogs r → IsLeftByRuns (placed kept asides.aside r.devices.head r.work.logs) r.devices.head r.work.logs
+    set (inl same) found = subst (λ (k : List (List Record)). IsLeftByRuns (placed k asides.aside r.devices.head r.work.logs) r.devices.head r.work.logs) (sym same) (asides.left found)
+    set (inr new) found =
+        left_set (placed kept asides.aside r.devices.head r.work.logs) r.devices.head r.work.logs r.devices.generation
+        (subst (λ (k : List (List Record)). IsSet (placed k asides.aside r.devices.head r.work.logs) r.devices.head r.work.logs r.devices.generation) (sym new.1) (begun_now new.0))
+
+pub begins_again : FourLaws → GrowthKeeps → Unwritten → Written → (r : TheRun) (images : ℕ → List ℕ) → KeepsLimits r.work → CrashBefore r images → BeginsAgain r images
+begins_again laws keeps unwritten written r images limits crash = record {
+  now = four.now;
+  holds = four.holds;
+  kept = all.kept;
+  lists = four.lists;
+  which = which;
+  begins = all.begins;
+  folds = all.folds;
+  used = four.used;
+  set = four.set;
+}
+  where
+    within : r.devices.head + r.work.logs ≤ 4
+    within = within_four r.devices.used.fronts r.devices.head r.work.logs r.devices.generation (omega (arith, limits.logs.1)) r.devices.used.used
+
+    tells : TellAll r.before crash.held
+    tells d low = let cut = (crash.each d low).0 in (cut.history, cut.told, cut.holds)
+
+    all : AllLeft r.work.logs r.devices.records r.work.states r.opening r.devices.fold (image_of r images)
+    all = all_left unwritten written r.work.logs r.devices.records r.work.states r.opening r.devices.fold r.devices.added (image_of r images) limits.logs.0 r.devices.as_many r.devices.start r.devices.folds (each_left keeps r images crash within)
+
+    which : KeepsOrBegins r.work.logs r.work.states r.devices.records all.kept
+    which = subst (λ n. KeepsOrBegins n r.work.states r.devices.records all.kept) r.devices.as_many all.which
+
+    asides : AsidesLeft r crash.held images
+    asides =
+        asides_left laws r crash.held images limits tells
+        (λ d low off. aside_left laws.log r.devices.head r.work.logs r.devices.generation d r.before r.after (crash.held d) (crash.made d) (images d) r.devices.aside low off (crash.each d low).0 ((crash.each d low).1.aside off))
+
+    four : KeptFour r images all.kept
+    four = kept_four laws r crash.held images all.kept limits asides which all.holds

@@ -1,45 +1,109 @@
 -- What a run leaves is what the call that prints what the logs recover to goes by.
-use Rattle.std.specs.Prelude.{◌≡◌, ℕ, suc, ◌<◌, List, [], ◌∷◌, length, take}
-use Rattle.std.specs.List.{AllZip}
-use Rattle.std.proofs.Common.{inl, inr, arith, sym, subst}
+use Rattle.std.specs.Prelude.{◌≡◌, refl, ℕ, ◌+◌, ◌<◌, ◌≤◌, Option, List, take, IfSome}
+use Rattle.std.specs.List.{AllByRecursion}
+use Rattle.std.proofs.Common.{inl, inr, arith, sym, ap, subst, ◌∙◌}
 use Rattle.aml_slice.specs.aml_tree.Tree.{CheckedMethod}
+use Rattle.machine_recovery.specs.compact_laws.log_compact.declared.folds.Folded.{Folded}
+use Rattle.log_compaction.specs.Crashes.{FoldsAgain}
+use Rattle.machine_recovery.specs.compact_laws.log_compact.Finding.{FrontsTell, IsLeftByRuns, IsUsed, begun, unbegun}
+use Rattle.machine_recovery.specs.compact_laws.log_compact.Fronts.{FrontsOfRecords, HoldsFront}
+use Rattle.machine_recovery.specs.compact_laws.log_compact.Sets.{IsFolded, IsSet, logs_from}
+use Rattle.run_opening.specs.log_opening.Cuts.{HoldFour, TellBytes}
 use Rattle.run_opening.specs.log_opening.Devices.{Device, device_at}
-use Rattle.run_opening.specs.log_opening.Kept.{IsSaid}
-use Rattle.record_log.specs.Records.{HoldsRecords}
-use Rattle.run_opening.specs.Begins.{AreEmpty, AreOfRuns}
-use Rattle.run_opening.specs.Opens.{TellsRecords, records_at}
-use Rattle.run_recovery.specs.Beginnings.{BeginsAgain, HoldEach}
-use Rattle.run_recovery.specs.Crashes.{Recovers}
+use Rattle.run_opening.specs.log_opening.Kept.{AreUsed}
+use Rattle.record_log.specs.Records.{HoldsRecords, spelled}
+use Rattle.record_log.specs.snap_outside.Disk.{DeviceHistory, content}
+use Rattle.run_opening.specs.Begins.{AreEmpty}
+use Rattle.run_opening.specs.Opens.{TellsRecords}
+use Rattle.run_recovery.specs.Beginnings.{BeginsAgain}
+use Rattle.run_recovery.specs.Between.{LeadTo}
+use Rattle.run_recovery.specs.Crashes.{FindsRunsLogs, Recovers}
 use Rattle.run_recovery.specs.Next.{GoesOnFrom, fold_left, records_left}
-use Rattle.run_recovery.specs.Recoverable.{AreRecoverable, TellBytes}
+use Rattle.run_recovery.specs.Recoverable.{AreRecoverable}
 use Rattle.run_recovery.specs.OneRun.{TheRun, MomentOf}
+use Rattle.run_recovery.specs.Several.{CutOff, FoundByRuns, Left, bytes_left, in_use}
 use Rattle.record_log.specs.txn_records.declared.records.Record.{Record}
-use Rattle.run_recovery.proofs.SeveralRuns.{kept_long}
+use Rattle.record_log.specs.txn_records.Records.{IsRecord}
+use Rattle.run_recovery.proofs.FourDevices.{all_empty, from_at, from_long}
 
--- the devices that tell their records lie on the first ones
-tell_all : (logs : List (List Record)) (ds : List Device) → ((l : ℕ) → l < length logs → TellsRecords (device_at ds l) (records_at logs l)) → AllZip TellsRecords (take (length logs) ds) logs
-tell_all [] ds each = tt
-tell_all (rs ∷ logs) [] each = let none = (each 0 (omega arith)).1 in absurd (cc none)
-tell_all (rs ∷ logs) (d ∷ ds) each = (each 0 (omega arith), tell_all logs ds (λ l lt. each (suc l) (omega (arith, lt))))
+-- what the laws say of the records in front of a log
+pub record FrontLaws : Type 0 where
+  pub fronts : FrontsOfRecords
+  pub tell : FrontsTell
 
-tell_each : (logs : ℕ) (ds : List Device) (images : ℕ → List ℕ) (records : List (List Record)) → length records ≡ logs → HoldEach logs images records → TellBytes logs ds images → AllZip TellsRecords (take (length records) ds) records
-tell_each logs ds images records as_many holds tell =
-    tell_all records ds (λ l lt.
-    let here : l < logs = omega (arith, lt, as_many) in
-    let t = tell l here in
-    (t.0, t.1, subst (λ (bytes : List ℕ). HoldsRecords bytes (records_at records l)) (sym t.2) (holds l here)))
+module _ (laws : FrontLaws) (head logs generation : ℕ) (now : ℕ → List Record) (images : ℕ → List ℕ) (ds : List Device) (holds : HoldFour images now) (tell : TellBytes ds images) (u : IsUsed now 1 head logs generation) where
+  tells : (d : ℕ) → d < 4 → TellsRecords (device_at ds d) (now d)
+  tells d low = let t = tell d low in (t.0, t.1, subst (λ (bytes : List ℕ). HoldsRecords bytes (now d)) (sym t.2) (holds d low))
 
-pub within : (p : List CheckedMethod) (r : TheRun) (m : MomentOf r) (images : ℕ → List ℕ) (left : Recovers p r m images) → GoesOnFrom left → AreOfRuns r.devices.records
-    → (ds : List Device) → TellBytes r.work.logs ds images → AreRecoverable ds (records_left left) (fold_left left)
-within p r m images left g own ds tell = record { said = g.said own; told = tell_each r.work.logs ds images (records_left left) g.as_many g.holds tell; folded = g.folded }
+  -- the Genesis of a head is a record, so it tells few logs
+  few : head + logs ≤ 4
+  few = by u
+    where
+      by : IsUsed now 1 head logs generation → head + logs ≤ 4
+      by (inl s) =
+          let low : head < 4 = omega (arith, s.is_head.low) in
+          let each = subst (AllByRecursion IsRecord) s.is_head.begins (holds head low).each in
+          elim s.is_head.side [ inl e ↦ omega (arith, e, each.0.few_logs) | inr e ↦ omega (arith, e, s.is_head.low) ]
+      by (inr n) = omega (arith, n.1, n.2)
 
-some_said : (records : List (List Record)) → ¬ AreEmpty records → AreOfRuns records → IsSaid records
-some_said records some (inl none) = absurd (some none)
-some_said records some (inr said) = said
+  are_used : AreUsed 1 ds head logs generation
+  are_used = record {
+    fronts = λ d. take 2 (now d);
+    each = λ d low.
+        let t = tells d low in
+        subst (λ (o : Option DeviceHistory). IfSome o (λ h. HoldsFront (content h) (take 2 (now d)))) (sym t.1) (laws.fronts.there (content t.0) (now d) t.2);
+    used = ((laws.tell now (λ d. take 2 (now d)) (λ d low. refl)).used 1 head logs generation).0 u;
+  }
 
-pub early : (r : TheRun) (images : ℕ → List ℕ) (b : BeginsAgain r images) → ¬ AreEmpty b.kept → AreOfRuns r.devices.records → (ds : List Device) → TellBytes r.work.logs ds images → AreRecoverable ds b.kept r.devices.fold
-early r images b some own ds tell = record {
-  said = some_said b.kept some (b.said own);
-  told = tell_each r.work.logs ds images b.kept (kept_long r images b) b.holds tell;
-  folded = b.folds some;
-}
+  recoverable : (lists : List (List Record)) (f : Folded) → logs_from now head logs ≡ lists → IsFolded lists f → AreRecoverable ds head lists f
+  recoverable lists f is folded =
+      subst (λ (l : List (List Record)). AreRecoverable ds head l f) is
+      (record {
+        generation = generation;
+        used = subst (λ (n : ℕ). AreUsed 1 ds head n generation) (sym (from_long now head logs)) are_used;
+        each = λ d low. let t = tells d low in (t.0, spelled (now d), t.1, t.2.log);
+        told = λ l lt.
+            let there : l < logs = omega (arith, lt, from_long now head logs) in
+            subst (λ (rs : List Record). TellsRecords (device_at ds (head + l)) rs) (sym (from_at now head logs l there)) (tells (head + l) (omega (arith, there, few)));
+        folded = subst (λ (l : List (List Record)). IsFolded l f) (sym is) folded;
+      })
+
+pub within : FrontLaws → (p : List CheckedMethod) (r : TheRun) (m : MomentOf r) (images : ℕ → List ℕ) (left : Recovers p r m images) → GoesOnFrom left → FindsRunsLogs r
+    → (ds : List Device) → TellBytes ds images → AreRecoverable ds r.devices.head (records_left left) (fold_left left)
+within laws p r m images left g found ds tell =
+    recoverable laws r.devices.head r.work.logs r.devices.generation left.now images ds left.holds tell (inl (left.set found)) (records_left left) (fold_left left) left.lists g.folded
+
+-- logs with a record are a set, where they are as runs leave them
+record SetOf (now : ℕ → List Record) (head logs : ℕ) : Type 0 where
+  generation : ℕ
+  set : IsSet now head logs generation
+
+set_of : (now : ℕ → List Record) (head logs : ℕ) → ¬ AreEmpty (logs_from now head logs) → IsLeftByRuns now head logs → SetOf now head logs
+set_of now head logs some (begun generation s) = record { generation = generation; set = s }
+set_of now head logs some (unbegun none zero_head empty) =
+    absurd
+    (some (all_empty (logs_from now head logs) (λ l lt.
+    let there : l < logs = omega (arith, lt, from_long now head logs) in
+    let e : head + l ≡ l = omega (arith, zero_head) in
+    from_at now head logs l there ∙ (ap now e ∙ empty l there))))
+
+pub early : FrontLaws → (r : TheRun) (images : ℕ → List ℕ) (b : BeginsAgain r images) → ¬ AreEmpty b.kept → FindsRunsLogs r → (ds : List Device) → TellBytes ds images → AreRecoverable ds r.devices.head b.kept r.devices.fold
+early laws r images b some found ds tell =
+    let s = set_of b.now r.devices.head r.work.logs (subst (λ (l : List (List Record)). ¬ AreEmpty l) (sym b.lists) some) (b.set found) in
+    recoverable laws r.devices.head r.work.logs s.generation b.now images ds b.holds tell (inl s.set) b.kept r.devices.fold b.lists (b.folds some)
+
+-- behind a compaction
+pub compacted_left : FrontLaws → (held : ℕ → List Record) (was count : ℕ) (f : Folded) (images : ℕ → List ℕ) (left : FoldsAgain held was count f images) → (ds : List Device) → TellBytes ds images
+    → AreRecoverable ds left.head (logs_from left.now left.head count) left.fold
+compacted_left laws held was count f images left ds tell =
+    recoverable laws left.head count left.fold.generation left.now images ds left.holds tell left.used (logs_from left.now left.head count) left.fold refl left.folded
+
+-- behind a run that is cut off and calls
+pub calls_left : FrontLaws → (x : CutOff) (left : Left x x.crash) → ¬ AreEmpty (in_use left) → FoundByRuns x → (ds : List Device) → TellBytes ds (bytes_left x) → AreRecoverable ds left.head (in_use left) left.fold
+calls_left laws x left some found ds tell =
+    let s = set_of left.now left.head x.work.logs some (left.set found) in
+    recoverable laws left.head x.work.logs s.generation left.now (bytes_left x) ds left.holds tell (inl s.set) (in_use left) left.fold refl (folds left.leads)
+  where
+    folds : LeadTo (in_use left) x.work.states left.fold → IsFolded (in_use left) left.fold
+    folds (inl none) = absurd (some none.0)
+    folds (inr on) = on.1

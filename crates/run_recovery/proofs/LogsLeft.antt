@@ -1,5 +1,5 @@
 -- What a crash at a moment leaves of each log, and what that recovers to.
-use Rattle.std.specs.Prelude.{◌≡◌, ◌≢◌, refl, ℕ, zero, suc, ◌+◌, ◌<◌, Bool, true, false, ◌⊎◌, Option, Some, None, List, [], ◌∷◌, ◌++◌, length, take, drop, IfSome}
+use Rattle.std.specs.Prelude.{◌≡◌, ◌≢◌, refl, ℕ, zero, suc, ◌+◌, ◌<◌, ◌≤◌, Bool, true, false, ◌⊎◌, Option, Some, None, List, [], ◌∷◌, ◌++◌, length, take, drop, IfSome}
 use Rattle.std.proofs.Common.{inl, inr, arith, sym, ap, subst, ◌∙◌}
 use Rattle.std.proofs.lemmas.Bool.{true≢false}
 use Rattle.std.proofs.lemmas.List.{append-nil, map-append, take-append-drop, append_assoc}
@@ -9,6 +9,7 @@ use Rattle.std.proofs.Math.Seq.{take-length}
 use Rattle.aml_slice.specs.Controls.{Rest}
 use Rattle.record_log.specs.gate_log.Opened.{Opened}
 use Rattle.run_effects.specs.Driven.{tried_on}
+use Rattle.run_opening.specs.log_opening.Cuts.{IsCutCall}
 use Rattle.run_opening.specs.log_opening.Devices.{device_at}
 use Rattle.protocol.specs.Effects.{log_at}
 use Rattle.protocol.specs.Events as machine
@@ -27,7 +28,7 @@ use Rattle.run_opening.specs.Opens.{as_groups, first_groups, records_at, with_fi
 use Rattle.run_effects.specs.Groups.{durable, group_behind, groups_of, waiting}
 use Rattle.run_effects.specs.Laws.{GroupsAreDurable}
 use Rattle.record_log.specs.snap_outside.declared.devices.DevOp.{DevOp}
-use Rattle.record_log.specs.snap_outside.Disk.{DeviceHistory, IsImage, content, disk, disk_after, settled}
+use Rattle.record_log.specs.snap_outside.Disk.{DeviceHistory, IsImage, content, disk, disk_after}
 use Rattle.record_log.specs.txn_records.declared.records.Record.{Record}
 use Rattle.run_effects.specs.Made.{IsMade}
 use Rattle.run_recovery.specs.Crashes.{CrashOn, begun_on, earlier}
@@ -104,20 +105,19 @@ cut_by w es m l failed before image begun (group ∷ later) waits next (inr more
       subst (λ x. HoldsRecords image x) is more.1,
     )
 
--- what a crash at a moment of a run tells of a log of it
-abbrev CrashAt : (r : TheRun) → MomentOf r → (ℕ → List ℕ) → (ℕ → List DevOp) → (l : ℕ) → l < r.work.logs → Type 0
-CrashAt r m images made l lt =
-    (h : DeviceHistory) × ((device_at r.before l).told ≡ Some h) × (disk h ≡ settled (content h))
-    × IsMade m l (content h) (r.devices.each l lt).end (first_groups l r.devices.added) (begun_on r l) (made l)
-    × IsImage (disk_after (made l) (disk h)) (images l)
-
-pub cut_at : (r : TheRun) (m : MomentOf r) (images : ℕ → List ℕ) → MomentKeeps → GroupsAreDurable (machine_in r) → IsRun (machine_in r) m.events → CrashOn r m images → (l : ℕ) → l < r.work.logs
-    → (k : ℕ) × IsCutTo (machine_in r) r.events m l k × HoldsCut (machine_in r) r.events m l (records_at (earlier r) l) (images l) k
-cut_at r m images keeps synced run crash l lt =
-    cut_by v r.events m l r.failed (records_at (earlier r) l) (images l) made.begun made.later made.waits next (subst (λ xs. HoldsWhole xs made.later made.begun (images l)) is holds)
+pub cut_at : (r : TheRun) (m : MomentOf r) (images : ℕ → List ℕ) → MomentKeeps → GroupsAreDurable (machine_in r) → IsRun (machine_in r) m.events → CrashOn r m images → r.devices.head + r.work.logs ≤ 4 → (l : ℕ) → l < r.work.logs
+    → (k : ℕ) × IsCutTo (machine_in r) r.events m l k × HoldsCut (machine_in r) r.events m l (records_at (earlier r) l) (images (r.devices.head + l)) k
+cut_at r m images keeps synced run crash within l lt =
+    cut_by v r.events m l r.failed (records_at (earlier r) l) (images d) made.begun made.later made.waits next (subst (λ xs. HoldsWhole xs made.later made.begun (images d)) is holds)
   where
     v : Fixed Rest
     v = machine_in r
+
+    d : ℕ
+    d = r.devices.head + l
+
+    low : r.devices.head + l < 4
+    low = omega (arith, within, lt)
 
     rs : List Record
     rs = records_at r.devices.records l
@@ -134,31 +134,31 @@ cut_at r m images keeps synced run crash l lt =
     tried : Option (List Record)
     tried = tried_on r.failed l (group_behind v l r.events)
 
-    here : IsRunDevice (device_at r.before l) (device_at r.after l) rs all tried
+    here : IsRunDevice (device_at r.before d) (device_at r.after d) rs all tried
     here = r.devices.each l lt
 
-    c : CrashAt r m images crash.made l lt
-    c = crash.each l lt
+    cut : IsCutCall (device_at r.before d) (crash.held d) (crash.made d) (images d)
+    cut = (crash.each d low).0
 
     h : DeviceHistory
-    h = c.0
+    h = cut.history
 
-    made : IsMade m l (content h) here.end first (begun_on r l) (crash.made l)
-    made = c.3
+    made : IsMade m l (content h) here.end first (begun_on r l) (crash.made d)
+    made = (crash.each d low).1.in_use l lt refl
 
     opened : Opened (Some h) here.opened.0 here.end here.opened.1
-    opened = subst (λ t. Opened t here.opened.0 here.end here.opened.1) c.1 here.opened.2
+    opened = subst (λ t. Opened t here.opened.0 here.end here.opened.1) cut.told here.opened.2
 
     held : HoldsRecords (content h) rs
-    held = subst (λ t. IfSome t (λ h. HoldsRecords (content h) rs)) c.1 here.held
+    held = subst (λ t. IfSome t (λ h. HoldsRecords (content h) rs)) cut.told here.held
 
     may : MayAppendGroups here.end (begun_on r l)
-    may = grew_may h (device_at r.after l).told here.end all tried (subst (λ t. GrewBy t (device_at r.after l).told here.end all tried) c.1 here.grew)
+    may = grew_may h (device_at r.after d).told here.end all tried (subst (λ t. GrewBy t (device_at r.after d).told here.end all tried) cut.told here.grew)
 
-    holds : HoldsWhole (rs ++ all_records (first ++ groups)) made.later made.begun (images l)
+    holds : HoldsWhole (rs ++ all_records (first ++ groups)) made.later made.begun (images d)
     holds =
-        keeps h here.opened.0 here.end here.opened.1 rs (first ++ groups) made.later made.begun opened held (subst (MayAppendGroups here.end) made.splits may) made.next (images l)
-        (subst (λ ops. IsImage (disk_after ops (disk h)) (images l)) made.so_far c.4)
+        keeps h here.opened.0 here.end here.opened.1 rs (first ++ groups) made.later made.begun opened held (subst (MayAppendGroups here.end) made.splits may) made.next (images d)
+        (subst (λ ops. IsImage (disk_after ops (disk h)) (images d)) made.so_far cut.left)
 
     next : (group : List Record) (more : List (List Record)) → made.later ≡ group ∷ more → m.has_begun l ≡ true → group ≡ waiting (log_at (reached_at r m) l)
     next group more e on = next_waits v r.events m l r.failed first group more on (made.splits ∙ ap (λ xs. (first ++ groups) ++ xs) e)

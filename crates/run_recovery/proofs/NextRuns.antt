@@ -23,7 +23,6 @@ use Rattle.run_recovery.specs.Next.{GoesOnFrom, fold_left, records_left}
 use Rattle.run_recovery.specs.OneRun.{TheRun, MomentOf, reached_at}
 use Rattle.run_recovery.specs.Runs.{AreRunDevices}
 use Rattle.run_recovery.proofs.LogsLeft.{first_long}
-use Rattle.run_recovery.proofs.SaidLogs.{said_grown, said_written}
 
 -- ---- lists of records that began
 
@@ -31,13 +30,13 @@ no_records : (logs : List (List Record)) → AreEmpty logs → all_of logs ≡ [
 no_records [] empty = refl
 no_records (rs ∷ logs) empty = ap (λ (l : List Record). l ++ all_of logs) empty.0 ∙ no_records logs empty.1
 
-began_some : (logs : List (List Record)) (states : List State) → BeganWith logs states → ¬ AreEmpty logs
+pub began_some : (logs : List (List Record)) (states : List State) → BeganWith logs states → ¬ AreEmpty logs
 began_some logs states began empty = let none : Genesis (length logs) states ∷ [] ≡ [] = sym began ∙ ap (filter is_genesis) (no_records logs empty) in cc
 
 began_grown : (logs : List (List Record)) (states : List State) (more : ℕ → List LogRecord) → BeganWith logs states → BeganWith (grown logs more) states
 began_grown logs states more began = grown_genesis 0 logs more ∙ (began ∙ ap (λ (n : ℕ). Genesis n states ∷ []) (sym (grown_length 0 logs more)))
 
-one_beginning : (logs : List (List Record)) (first states : List State) → BeganWith logs first → BeganWith logs states → first ≡ states
+pub one_beginning : (logs : List (List Record)) (first states : List State) → BeganWith logs first → BeganWith logs states → first ≡ states
 one_beginning logs first states a b = let e : Genesis (length logs) first ∷ [] ≡ Genesis (length logs) states ∷ [] = sym a ∙ b in cc
 
 -- ---- the next run
@@ -72,11 +71,9 @@ begins_alone one logs first states f q began folded (inr on) = (one_opening one 
 pub goes_on : BeginsWritten → OneFold → (p : List CheckedMethod) (r : TheRun) (m : MomentOf r) (images : ℕ → List ℕ) → KeepsLimits r.work → (left : Recovers p r m images) → GoesOnFrom left
 goes_on law one p r m images limits left = record {
   as_many = grown_length 0 (earlier r) more ∙ (first_long devices.records devices.added ∙ devices.as_many);
-  holds = left.holds;
   some = began_some (records_left left) states same;
   folded = left.members.folded;
   same = same;
-  said = λ own. said_grown (earlier r) more (said_written devices.records states r.opening devices.added some devices.start own);
   begins = λ unspent. inr (record { some = began_some (records_left left) states same; folded = (fold_left left, left.members.folded, refl); same = same; unspent = unspent });
   alone = λ others q begins. begins_alone one (records_left left) states others (fold_left left) q same left.members.folded begins;
 }

@@ -1,6 +1,6 @@
 -- What a run on its logs is to the laws of the machine, and what a crash at a moment of it recovers to.
-use Rattle.std.specs.Prelude.{◌≡◌, refl, ℕ, ◌<◌, nat_lt, Bool, true, false, List, length}
-use Rattle.std.proofs.Common.{sym, subst, ◌∙◌}
+use Rattle.std.specs.Prelude.{◌≡◌, refl, ℕ, ◌+◌, ◌<◌, ◌≤◌, nat_lt, Bool, true, false, List, length}
+use Rattle.std.proofs.Common.{arith, sym, subst, ◌∙◌}
 use Rattle.std.proofs.lemmas.Bool.{ltb-true, lt-ltb, true≢false}
 use Rattle.aml_slice.specs.Controls.{Rest}
 use Rattle.aml_slice.specs.aml_tree.Tree.{CheckedMethod}
@@ -17,8 +17,8 @@ use Rattle.protocol.specs.Parts.{Machine}
 use Rattle.protocol.specs.Runs.{IsRun, opening, reached}
 use Rattle.machine_laws.specs.protocol_records.Crash.{CrashHolds}
 use Rattle.record_log.specs.GrowthLaws.{MomentKeeps}
-use Rattle.record_log.specs.Records.{HoldsRecords}
 use Rattle.machine_recovery.specs.compact_laws.Members.{FoldsToMembers}
+use Rattle.machine_recovery.specs.compact_laws.Stays.{UsedStays}
 use Rattle.machine_recovery.specs.recovery_laws.Grown.{BeginsWith}
 use Rattle.machine_recovery.proofs.recovery_laws.MomentsJoined.{front_allowed}
 use Rattle.run_opening.specs.Opens.{records_at}
@@ -33,7 +33,10 @@ use Rattle.run_recovery.specs.OneRun.{TheRun, MomentOf, machine_in, reached_at, 
 use Rattle.run_recovery.specs.Runs.{AreRunDevices, HasRunWork, machine_of, text_of}
 use Rattle.run_recovery.specs.Schedules.{Schedule}
 use Rattle.run_recovery.proofs.BegunTexts.{begins_with, starts_with_as_many, text_begins}
-use Rattle.run_recovery.proofs.LogsLeft.{HoldsCut, IsCutTo, cut_at, cut_synced, first_long, grown_at}
+use Rattle.run_recovery.proofs.FourDevices.{within_four}
+use Rattle.run_recovery.proofs.FoundFour.{FourLaws}
+use Rattle.run_recovery.proofs.LogsLeft.{HoldsCut, IsCutTo, cut_at, cut_synced, first_long}
+use Rattle.run_recovery.proofs.RunFour.{RunFour, moment_asides, run_four}
 use Rattle.run_recovery.proofs.RunsFollowed.{taken_run}
 
 -- ---- a run of the machine
@@ -62,18 +65,20 @@ pub record Laws (p : List CheckedMethod) : Type 0 where
   pub in_order : AtEveryMomentOf p CrashHolds
   pub moment : MomentKeeps
   pub durable : (v : Fixed Rest) → GroupsAreDurable v
+  pub four : FourLaws
+  pub stays : UsedStays
 
 -- a log is left with so many, where it is one of the run
 record IsPicked (r : TheRun) (m : MomentOf r) (images : ℕ → List ℕ) (l k : ℕ) : Type 0 where
   cut : IsCutTo (machine_in r) r.events m l k
-  holds : l < r.work.logs → HoldsCut (machine_in r) r.events m l (records_at (earlier r) l) (images l) k
+  holds : l < r.work.logs → HoldsCut (machine_in r) r.events m l (records_at (earlier r) l) (images (r.devices.head + l)) k
 
-picked : (r : TheRun) (m : MomentOf r) (images : ℕ → List ℕ) → MomentKeeps → GroupsAreDurable (machine_in r) → IsRun (machine_in r) m.events → CrashOn r m images
+picked : (r : TheRun) (m : MomentOf r) (images : ℕ → List ℕ) → MomentKeeps → GroupsAreDurable (machine_in r) → IsRun (machine_in r) m.events → CrashOn r m images → r.devices.head + r.work.logs ≤ 4
     → (l : ℕ) → (k : ℕ) × IsPicked r m images l k
-picked r m images keeps synced run crash l = by (nat_lt l r.work.logs) refl
+picked r m images keeps synced run crash within l = by (nat_lt l r.work.logs) refl
   where
     by : (b : Bool) → nat_lt l r.work.logs ≡ b → (k : ℕ) × IsPicked r m images l k
-    by true e = let c = cut_at r m images keeps synced run crash l (ltb-true l r.work.logs e) in (c.0, record { cut = c.1; holds = λ lt. c.2 })
+    by true e = let c = cut_at r m images keeps synced run crash within l (ltb-true l r.work.logs e) in (c.0, record { cut = c.1; holds = λ lt. c.2 })
     by false e = (
       (effects.log_at (reached_at r m) l).synced,
       record { cut = cut_synced (machine_in r) r.events m l; holds = λ lt. absurd (true≢false (sym (lt-ltb l r.work.logs lt) ∙ e)) },
@@ -84,7 +89,11 @@ run_recovers : (w : Work) (schedule : Schedule) (o : Opening) (es : List machine
 run_recovers w schedule o es failed before after laws limits run m images crash = record {
   kept = kept;
   left = left;
-  holds = λ l lt. subst (HoldsRecords (images l)) (sym (grown_at (earlier r) (left_in now kept) l (rw many lt))) ((pick l).1.holds lt);
+  now = four.now;
+  holds = four.holds;
+  lists = four.lists;
+  used = four.used;
+  set = four.set;
   members = laws.members (text_of w o) es m kept (earlier r) devices.fold text all left many devices.folds begins;
   meant = laws.meant (text_of w o) es m kept (earlier r) devices.fold text all left many devices.folds begins;
   stands = (laws.in_order (text_of w o) es m kept text all left).stands;
@@ -108,8 +117,11 @@ run_recovers w schedule o es failed before after laws limits run m images crash 
     now : Machine Rest
     now = reached_at r m
 
+    within : devices.head + w.logs ≤ 4
+    within = within_four devices.used.fronts devices.head w.logs devices.generation (omega (arith, limits.logs.1)) devices.used.used
+
     pick : (l : ℕ) → (k : ℕ) × IsPicked r m images l k
-    pick = picked r m images laws.moment (laws.durable (machine_of w o)) front crash
+    pick = picked r m images laws.moment (laws.durable (machine_of w o)) front crash within
 
     kept : ℕ → ℕ
     kept l = (pick l).0
@@ -122,6 +134,9 @@ run_recovers w schedule o es failed before after laws limits run m images crash 
 
     begins : BeginsWith (text_of w o) devices.fold.opening
     begins = subst (BeginsWith (text_of w o)) (sym devices.opens) (begins_with w o)
+
+    four : RunFour r images (left_in now kept)
+    four = run_four laws.four laws.stays r crash.held images (left_in now kept) limits (moment_asides laws.four r m images limits crash) (λ l lt. (pick l).1.holds lt)
 
 pub recovers : (p : List CheckedMethod) → Laws p → (w : Work) (schedule : Schedule) (o : Opening) (es : List machine.Event) (failed : ℕ → Bool) (before after : List Device) → w.program ≡ p → KeepsLimits w
     → (run : HasRunWork w schedule o es failed before after) → (m : MomentOf (the_run run)) (images : ℕ → List ℕ) → CrashOn (the_run run) m images → Recovers p (the_run run) m images

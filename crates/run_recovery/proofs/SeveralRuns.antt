@@ -1,11 +1,11 @@
 -- Of runs one behind the other, what the crash of each left is what the next one began with.
-use Rattle.std.specs.Prelude.{◌≡◌, refl, ℕ, suc, ◌<◌, Bool, Option, Some, List, [], ◌∷◌, ◌++◌, length, Contains, IfSome}
+use Rattle.std.specs.Prelude.{◌≡◌, refl, ℕ, suc, ◌+◌, ◌<◌, ◌≤◌, Bool, List, [], ◌∷◌, ◌++◌, length, Contains}
 use Rattle.std.specs.List.{AllByRecursion}
 use Rattle.std.proofs.Common.{inl, inr, append_assoc, arith, sym, ap, subst, ◌∙◌}
 use Rattle.std.proofs.lemmas.List.{append-nil}
 use Rattle.aml_slice.specs.aml_tree.Tree.{CheckedMethod}
+use Rattle.run_opening.specs.log_opening.Cuts.{HoldFour}
 use Rattle.run_opening.specs.log_opening.Devices.{Device, device_at}
-use Rattle.run_opening.specs.log_opening.Kept.{DeviceHolds}
 use Rattle.protocol.specs.Events as machine
 use Rattle.protocol.specs.Moments.{left_in}
 use Rattle.protocol.specs.History.{history}
@@ -13,30 +13,32 @@ use Rattle.protocol.specs.Runs.{reached}
 use Rattle.machine_laws.specs.protocol_records.Crash.{members}
 use Rattle.record_log.specs.RecordLogLaws.{OneListOfRecords}
 use Rattle.record_log.specs.Records.{HoldsRecords}
-use Rattle.machine_recovery.specs.compact_laws.log_compact.Sets.{OneFold}
+use Rattle.machine_recovery.specs.compact_laws.log_compact.declared.folds.Folded.{Folded}
+use Rattle.machine_recovery.specs.compact_laws.log_compact.Finding.{IsLeftByRuns, IsUsed}
+use Rattle.machine_recovery.specs.compact_laws.log_compact.Folds.{BegunListsFold, FoldsAreBegun}
+use Rattle.machine_recovery.specs.compact_laws.log_compact.Sets.{OneFold, count_acts, count_batches, logs_from}
 use Rattle.machine_recovery.specs.recovery_laws.Grown.{all_in}
-use Rattle.run_opening.specs.Begins.{AreOfRuns, Begins, fresh_opening}
-use Rattle.run_opening.specs.Opens.{records_at}
-use Rattle.run_opening.specs.Starts.{IsStart, first_record}
+use Rattle.run_opening.specs.Opens.{records_at, with_first}
+use Rattle.run_opening.specs.Starts.{first_record}
 use Rattle.snap_base.specs.declared.transactions.State.{State}
 use Rattle.snap_base.proofs.Lists.{each_at}
-use Rattle.record_log.specs.snap_outside.Disk.{DeviceHistory, content}
 use Rattle.snap_recover.specs.declared.openings.Kept.{Kept}
+use Rattle.snap_recover.specs.declared.openings.Kept.TheVariants as kept
 use Rattle.snap_recover.specs.declared.openings.Opening.{Opening}
 use Rattle.snap_work.specs.Kept.{KeepsLimits}
 use Rattle.snap_work.specs.Works.{Work}
 use Rattle.record_log.specs.txn_records.declared.records.Record.{Record}
-use Rattle.run_recovery.specs.Beginnings.{BeginsAgain, CrashBefore, HoldEach, KeepsOrBegins}
-use Rattle.run_recovery.specs.Crashes.{CrashOn, Recovers}
-use Rattle.run_recovery.specs.Next.{GoesOnFrom, opening_left, records_left}
+use Rattle.run_recovery.specs.Beginnings.{BeginsAgain, CrashBefore, KeepsOrBegins}
+use Rattle.run_recovery.specs.Between.{Call, HasCompaction, IsFoldBehind, LeadTo, compacted, still}
+use Rattle.run_recovery.specs.Crashes.{CrashOn, FindsRunsLogs, Recovers}
+use Rattle.run_recovery.specs.Next.{GoesOnFrom, fold_left}
 use Rattle.run_recovery.specs.OneRun.{TheRun, MomentOf, the_run}
 use Rattle.run_recovery.specs.Runs.{HasRunWork, machine_of}
 use Rattle.run_recovery.specs.Schedules.{Schedule}
-use Rattle.run_recovery.specs.Several.{AddsMembers, BeganOn, Crash, CutOff, EachIsBehind, Early, FindsRunsLogs, GoOn, IsBehindCutOff, Left, LeftBy, OfNext, ValuesStand, Within, added_by, bytes_left}
-use Rattle.run_recovery.specs.Unbegun.{AreKept}
+use Rattle.run_recovery.specs.Several.{Adds, BeganOn, Crash, CutOff, EachIsBehind, Early, FoundByRuns, GoOn, HaveNoCompaction, IsBehindCutOff, Left, LeftBy, OfNext, ValuesStand, Within, added_by, in_use, kept_behind, kept_by}
 use Rattle.run_recovery.proofs.CallsKept.{CallsKeep}
-use Rattle.run_recovery.proofs.LogsLeft.{first_long}
-use Rattle.run_recovery.proofs.NextRuns.{one_opening}
+use Rattle.run_recovery.proofs.FourDevices.{SetLaws, TellAll, from_at, from_long, fronts_are, left_in_front, left_set, one_told, used_of, within_four}
+use Rattle.run_recovery.proofs.Leading.{alone_of, begun_leads, one_lead, run_leads, same_counts, states_of}
 
 -- ---- one of several programs
 
@@ -55,94 +57,99 @@ pub record NextLaws : Type 0 where
   pub begin : (r : TheRun) (images : ℕ → List ℕ) → KeepsLimits r.work → CrashBefore r images → BeginsAgain r images
   pub go_on : (p : List CheckedMethod) (r : TheRun) (m : MomentOf r) (images : ℕ → List ℕ) → KeepsLimits r.work → (left : Recovers p r m images) → GoesOnFrom left
   pub fold : OneFold
+  pub written : BegunListsFold
+  pub begun : FoldsAreBegun
   pub list : OneListOfRecords
+  pub sets : SetLaws
   pub calls : CallsKeep
 
 -- ---- what is left
 
-one_start : OneFold → (logs : List (List Record)) (states : List State) (o q : Opening) → Begins logs states o → Begins logs states q → q ≡ o
-one_start one logs states o q (inl x) (inl y) = y.1 ∙ sym x.1
-one_start one logs states o q (inl x) (inr y) = absurd (y.some x.0)
-one_start one logs states o q (inr x) (inl y) = absurd (x.some y.0)
-one_start one logs states o q (inr x) (inr y) = one_opening one logs q o y.folded x.folded
-
-pub kept_long : (r : TheRun) (images : ℕ → List ℕ) (b : BeginsAgain r images) → length b.kept ≡ r.work.logs
-kept_long r images b = by b.which
-  where
-    by : KeepsOrBegins r.work.logs r.work.states r.devices.records b.kept → length b.kept ≡ r.work.logs
-    by (inl e) = ap (λ (l : List (List Record)). length l) e ∙ r.devices.as_many
-    by (inr new) = ap (λ (l : List (List Record)). length l) new.1 ∙ (first_long r.devices.records (first_record r.work.logs r.work.states ∷ []) ∙ r.devices.as_many)
+-- the records of a run lead to what they fold to as it begins
+leads_to_run : NextLaws → (x : CutOff) → LeadTo x.run.devices.records x.work.states x.run.devices.fold
+leads_to_run laws x =
+    run_leads laws.fold laws.written laws.begun x.run.devices.records x.work.states x.opening x.run.devices.added x.run.devices.fold (omega (arith, x.limits.logs.0, x.run.devices.as_many)) x.run.devices.start x.run.devices.folds
 
 -- behind the crash
 record AtCrash (x : CutOff) (crash : Crash (the_run x.run) x.images) : Type 0 where
-  records : List (List Record)
-  opening : Opening
-  by : LeftBy x crash records opening
-  as_many : length records ≡ x.work.logs
-  holds : HoldEach x.work.logs x.images records
-  alone : (q : Opening) → Begins records x.work.states q → q ≡ opening
-  said : AreOfRuns x.run.devices.records → AreOfRuns records
-  committed : (more : List Kept) × (opening.committed ≡ x.opening.committed ++ more) × AddsMembers x crash more
+  now : ℕ → List Record
+  fold : Folded
+  by : LeftBy x crash now fold
+  adds : Adds x crash fold
+  holds : HoldFour x.images now
+  used : IsUsed now x.work.logs x.run.devices.head x.work.logs x.run.devices.generation
+  leads : LeadTo (logs_from now x.run.devices.head x.work.logs) x.work.states fold
+  set : FindsRunsLogs (the_run x.run) → IsLeftByRuns now x.run.devices.head x.work.logs
+
+-- while the run began
+early_leads : NextLaws → (x : CutOff) (b : BeginsAgain (the_run x.run) x.images) → LeadTo (logs_from b.now x.run.devices.head x.work.logs) x.work.states x.run.devices.fold
+early_leads laws x b = by b.which
+  where
+    by : KeepsOrBegins x.work.logs x.work.states x.run.devices.records b.kept → LeadTo (logs_from b.now x.run.devices.head x.work.logs) x.work.states x.run.devices.fold
+    by (inl same) = subst (λ (l : List (List Record)). LeadTo l x.work.states x.run.devices.fold) (sym (b.lists ∙ same)) (leads_to_run laws x)
+    by (inr new) =
+        subst (λ (l : List (List Record)). LeadTo l x.work.states x.run.devices.fold)
+        (ap (λ (n : ℕ). with_first x.run.devices.records (first_record n x.work.states ∷ [])) x.run.devices.as_many ∙ sym (b.lists ∙ new.1))
+        (begun_leads laws.fold laws.written laws.begun x.run.devices.records x.work.states x.run.devices.fold (omega (arith, x.limits.logs.0, x.run.devices.as_many)) new.0 (leads_to_run laws x))
 
 crashed : NextLaws → (x : CutOff) → AreRecovered x.work.program → (crash : Crash (the_run x.run) x.images) → AtCrash x crash
 crashed laws x recovered (Early crash) =
     let b = laws.begin (the_run x.run) x.images x.limits crash in
     record {
-      records = b.kept;
-      opening = x.opening;
+      now = b.now;
+      fold = x.run.devices.fold;
       by = (b, refl, refl);
-      as_many = kept_long (the_run x.run) x.images b;
+      adds = record { more = []; committed = ap (λ (q : Opening). q.committed) x.run.devices.opens ∙ sym (append-nil x.opening.committed); batches = omega arith; acts = omega arith; members = refl };
       holds = b.holds;
-      alone = λ q begins. one_start laws.fold b.kept x.work.states x.opening q b.begins begins;
-      said = b.said;
-      committed = ([], sym (append-nil x.opening.committed), refl);
+      used = b.used;
+      leads = early_leads laws x b;
+      set = b.set;
     }
 crashed laws x recovered (Within m crash) =
     let r = recovered x.work x.schedule x.opening x.events x.failed x.before x.after refl x.limits x.run m x.images crash in
     let g = laws.go_on x.work.program (the_run x.run) m x.images x.limits r in
     let more : List Kept = all_in x.work.logs (left_in (reached (machine_of x.work x.opening) m.events) r.kept) (reached (machine_of x.work x.opening) m.events) in
     record {
-      records = records_left r;
-      opening = opening_left r;
+      now = r.now;
+      fold = fold_left r;
       by = (r, g, refl, refl);
-      as_many = g.as_many;
-      holds = g.holds;
-      alone = λ q begins. (g.alone x.work.states q begins).0;
-      said = λ own. inr (g.said own);
-      committed = (
-        more,
-        ap (λ (q : Opening). q.committed ++ more) x.run.devices.opens,
-        (members x.work.logs (left_in (reached (machine_of x.work x.opening) m.events) r.kept) (history (machine_of x.work x.opening) m.events), r.members.ordered, r.meant.values),
-      );
+      adds = record {
+        more = more;
+        committed = ap (λ (q : Opening). q.committed ++ more) x.run.devices.opens;
+        batches = refl;
+        acts = refl;
+        members = (members x.work.logs (left_in (reached (machine_of x.work x.opening) m.events) r.kept) (history (machine_of x.work x.opening) m.events), r.members.ordered, r.meant.values);
+      };
+      holds = r.holds;
+      used = r.used;
+      leads = subst (λ (l : List (List Record)). LeadTo l x.work.states (fold_left r)) (sym r.lists) (inr (g.same, g.folded));
+      set = λ found. left_set r.now x.run.devices.head x.work.logs x.run.devices.generation (r.set found);
     }
-
--- a run begins behind the calls with the opening with which it would have begun before them
-begins_alone : OneFold → (logs : ℕ) (states : List State) (records : List (List Record)) (images : ℕ → List ℕ) (k : AreKept logs states records images) (o : Opening) → ((q : Opening) → Begins records states q → q ≡ o)
-    → (q : Opening) → Begins k.kept states q → q ≡ o
-begins_alone one logs states records images k o alone q begins = by k.which
-  where
-    by : KeepsOrBegins logs states records k.kept → q ≡ o
-    by (inl same) = alone q (subst (λ (l : List (List Record)). Begins l states q) same begins)
-    by (inr new) =
-        let fresh : Begins records states (fresh_opening states) = inl (new.0, refl) in
-        one_start one k.kept states (fresh_opening states) q (k.begins (fresh_opening states) fresh) begins ∙ alone (fresh_opening states) fresh
 
 -- behind the calls
 left_by : NextLaws → (x : CutOff) → AreRecovered x.work.program → (crash : Crash (the_run x.run) x.images) → Left x crash
 left_by laws x recovered crash =
     let c = crashed laws x recovered crash in
-    let k = laws.calls x.work.logs x.work.states c.records x.images x.calls x.limits.logs.0 c.as_many c.holds x.unbegun in
+    let lists = logs_from c.now x.run.devices.head x.work.logs in
+    let k =
+    laws.calls x.work.logs x.work.states x.run.devices.head x.run.devices.generation c.now x.images x.calls x.limits.logs.0 (omega (arith, x.limits.logs.1)) c.used c.holds (λ among. states_of lists x.work.states c.fold c.leads) x.between in
+    let next = k.folds c.fold c.leads in
     record {
-      crashed = c.records;
-      records = k.kept;
-      opening = c.opening;
+      crashed = c.now;
+      crashed_fold = c.fold;
       by = c.by;
-      which = k.which;
-      as_many = k.as_many;
+      adds = c.adds;
+      now = k.kept;
       holds = k.holds;
-      alone = begins_alone laws.fold x.work.logs x.work.states c.records (bytes_left x) k c.opening c.alone;
-      said = λ own. k.said (c.said own);
-      committed = c.committed;
+      head = k.kept_head;
+      generation = k.kept_generation;
+      used = k.used;
+      set = λ found. k.set (c.set found);
+      unbegun = k.unbegun;
+      fold = next.0;
+      which = next.2;
+      leads = next.1;
+      alone = λ q begins. alone_of laws.fold (logs_from k.kept k.kept_head x.work.logs) x.work.states next.0 q next.1 begins;
     }
 
 -- ---- what the next one begins with
@@ -154,30 +161,49 @@ same_lists_at (x ∷ xs) [] e same = absurd (omega (arith, e))
 same_lists_at (x ∷ xs) (y ∷ ys) e same =
     ap (λ (z : List Record). z ∷ xs) (same 0 (omega arith)) ∙ ap (λ (zs : List (List Record)). y ∷ zs) (same_lists_at xs ys (omega (arith, e)) (λ l lt. same (suc l) (omega (arith, lt))))
 
-held_there : (d : Device) (h : DeviceHistory) (image : List ℕ) (rs : List Record) → d.told ≡ Some h → content h ≡ image → DeviceHolds d rs → HoldsRecords image rs
-held_there d h image rs told is held = subst (λ (bytes : List ℕ). HoldsRecords bytes rs) is (subst (λ (t : Option DeviceHistory). IfSome t (λ h. HoldsRecords (content h) rs)) told held)
-
-start_begins : (logs : List (List Record)) (states : List State) (o : Opening) (added : List Record) → IsStart logs states o added → Begins logs states o
-start_begins logs states o added (inl new) = inl (new.0, new.1)
-start_begins logs states o added (inr on) = inr on.0
-
 began_on : NextLaws → (x y : CutOff) (crash : Crash (the_run x.run) x.images) (left : Left x crash) → IsBehindCutOff x y → BeganOn left y
 began_on laws x y crash left behind = record {
+  head = at.0;
+  generation = at.1;
   records = same;
-  opening = left.alone y.opening
-      (subst (λ (logs : List (List Record)). Begins logs x.work.states y.opening) same
-      (subst (λ (states : List State). Begins y.run.devices.records states y.opening) behind.states
-      (start_begins y.run.devices.records y.work.states y.opening y.run.devices.added y.run.devices.start)));
+  fold = fold;
+  opening = sym y.run.devices.opens ∙ ap (λ (f : Folded). f.opening) fold;
+  found = λ was.
+      left_in_front laws.sets y.run.devices.used.fronts left.now y.run.devices.head y.work.logs (omega (arith, y.limits.logs.1)) (fronts_are laws.sets left.now y.run.devices.used tells)
+      (subst (λ (n : ℕ). IsLeftByRuns left.now y.run.devices.head n) (sym behind.logs) (subst (λ (h : ℕ). IsLeftByRuns left.now h x.work.logs) (sym at.0) was));
 }
   where
-    at : (l : ℕ) → l < x.work.logs → records_at y.run.devices.records l ≡ records_at left.records l
-    at l lt =
-        let t = behind.told l lt in
-        laws.list (bytes_left x l) (records_at y.run.devices.records l) (records_at left.records l)
-        (held_there (device_at y.before l) t.0 (bytes_left x l) (records_at y.run.devices.records l) t.1 t.2 (y.run.devices.each l (rw behind.logs lt)).held) (left.holds l lt)
+    tells : TellAll y.before left.now
+    tells d low = let t = behind.told d low in (t.0, t.1, subst (λ (bytes : List ℕ). HoldsRecords bytes (left.now d)) (sym t.2) (left.holds d low))
 
-    same : y.run.devices.records ≡ left.records
-    same = same_lists_at y.run.devices.records left.records (y.run.devices.as_many ∙ (behind.logs ∙ sym left.as_many)) (λ l lt. at l (omega (arith, lt, y.run.devices.as_many, behind.logs)))
+    used : IsUsed left.now y.work.logs y.run.devices.head y.work.logs y.run.devices.generation
+    used = used_of laws.sets left.now y.run.devices.used tells
+
+    at : (y.run.devices.head ≡ left.head) × (y.run.devices.generation ≡ left.generation)
+    at =
+        let o =
+        laws.sets.one left.now x.work.logs y.run.devices.head x.work.logs y.run.devices.generation left.head x.work.logs left.generation
+        (subst (λ (n : ℕ). IsUsed left.now n y.run.devices.head n y.run.devices.generation) behind.logs used) left.used in
+        (o.0, o.2)
+
+    within : y.run.devices.head + y.work.logs ≤ 4
+    within = within_four left.now y.run.devices.head y.work.logs y.run.devices.generation (omega (arith, y.limits.logs.1)) used
+
+    each : (l : ℕ) → l < y.work.logs → records_at y.run.devices.records l ≡ records_at (in_use left) l
+    each l lt =
+        one_told laws.list (device_at y.before (y.run.devices.head + l)) (records_at y.run.devices.records l) (left.now (y.run.devices.head + l)) (y.run.devices.each l lt).held (tells (y.run.devices.head + l) (omega (arith, within, lt)))
+        ∙ (ap (λ (h : ℕ). left.now (h + l)) at.0 ∙ sym (from_at left.now left.head x.work.logs l (omega (arith, lt, behind.logs))))
+
+    same : y.run.devices.records ≡ in_use left
+    same =
+        same_lists_at y.run.devices.records (in_use left) (y.run.devices.as_many ∙ (behind.logs ∙ sym (from_long left.now left.head x.work.logs)))
+        (λ l lt. each l (omega (arith, lt, y.run.devices.as_many)))
+
+    fold : y.run.devices.fold ≡ left.fold
+    fold =
+        one_lead laws.fold (in_use left) x.work.states y.run.devices.fold left.fold
+        (subst (λ (logs : List (List Record)). LeadTo logs x.work.states y.run.devices.fold) same
+        (subst (λ (states : List State). LeadTo y.run.devices.records states y.run.devices.fold) behind.states (leads_to_run laws y))) left.leads
 
 next_began : NextLaws → (x : CutOff) (crash : Crash (the_run x.run) x.images) (left : Left x crash) (xs : List CutOff) → OfNext (IsBehindCutOff x) xs → OfNext (BeganOn left) xs
 next_began laws x crash left [] behind = tt
@@ -191,27 +217,61 @@ go_on_behind laws ps all (x ∷ xs) of_them behind =
 
 -- ---- logs as runs leave them
 
-next_finds : (x : CutOff) (left : Left x x.crash) (xs : List CutOff) → OfNext (BeganOn left) xs → FindsRunsLogs x → OfNext FindsRunsLogs xs
+next_finds : (x : CutOff) (left : Left x x.crash) (xs : List CutOff) → OfNext (BeganOn left) xs → FoundByRuns x → OfNext FoundByRuns xs
 next_finds x left [] began own = tt
-next_finds x left (y ∷ ys) began own = subst AreOfRuns (sym began.records) (left.said own)
+next_finds x left (y ∷ ys) began own = began.found (left.set own)
 
-pub each_finds : (xs : List CutOff) → GoOn xs → OfNext FindsRunsLogs xs → AllByRecursion FindsRunsLogs xs
+pub each_finds : (xs : List CutOff) → GoOn xs → OfNext FoundByRuns xs → AllByRecursion FoundByRuns xs
 each_finds [] on own = tt
 each_finds (x ∷ xs) on own = (own, each_finds xs on.1 (next_finds x on.0.0 xs on.0.1 own))
 
 -- ---- the values that recovery gives
 
-next_opening : (x : CutOff) (left : Left x x.crash) (xs : List CutOff) → OfNext (BeganOn left) xs → OfNext (λ (y : CutOff). y.opening ≡ left.opening) xs
-next_opening x left [] began = tt
-next_opening x left (y ∷ ys) began = began.opening
+next_fold : (x : CutOff) (left : Left x x.crash) (xs : List CutOff) → OfNext (BeganOn left) xs → OfNext (λ (y : CutOff). y.run.devices.fold ≡ left.fold) xs
+next_fold x left [] began = tt
+next_fold x left (y ∷ ys) began = began.fold
 
-pub values_stand : (o : Opening) (xs : List CutOff) (on : GoOn xs) → OfNext (λ (x : CutOff). x.opening ≡ o) xs → ValuesStand o xs on
-values_stand o [] on first = record { committed = sym (append-nil o.committed); members = tt }
-values_stand o (x ∷ xs) on first =
+-- what is kept behind calls is what they lead to
+is_kept : {calls : List Call} {f g : Folded} (w : IsFoldBehind calls f g) (ks : List Kept) → f.opening.committed ≡ ks → g.opening.committed ≡ kept_by w ks
+is_kept (still same) ks e = ap (λ (x : Folded). x.opening.committed) same ∙ e
+is_kept (compacted among same later since) ks e = since
+
+all_stay : {calls : List Call} {f g : Folded} (w : IsFoldBehind calls f g) (ks : List Kept) → ¬ HasCompaction calls → kept_by w ks ≡ ks
+all_stay (still same) ks none = refl
+all_stay (compacted among same later since) ks none = absurd (none among)
+
+all_kept : (ks : List Kept) (xs : List CutOff) (on : GoOn xs) → HaveNoCompaction xs → kept_behind ks xs on ≡ ks ++ added_by xs on
+all_kept ks [] on none = sym (append-nil ks)
+all_kept ks (x ∷ xs) on none =
     let left = on.0.0 in
-    let more : List Kept = left.committed.0 in
-    let later = values_stand left.opening xs on.1 (next_opening x left xs on.0.1) in
+    let more : List Kept = left.adds.more in
+    ap (λ (z : List Kept). kept_behind z xs on.1) (all_stay left.which (ks ++ more) none.0) ∙ (all_kept (ks ++ more) xs on.1 none.1 ∙ append_assoc ks more (added_by xs on.1))
+
+batches_joined : (xs ys : List Kept) → count_batches (xs ++ ys) ≡ count_batches xs + count_batches ys
+batches_joined [] ys = omega arith
+batches_joined (kept.Batch bid tids values ∷ xs) ys = omega (arith, batches_joined xs ys)
+batches_joined (kept.Act tid m c value ∷ xs) ys = batches_joined xs ys
+
+acts_joined : (xs ys : List Kept) → count_acts (xs ++ ys) ≡ count_acts xs + count_acts ys
+acts_joined [] ys = omega arith
+acts_joined (kept.Batch bid tids values ∷ xs) ys = acts_joined xs ys
+acts_joined (kept.Act tid m c value ∷ xs) ys = omega (arith, acts_joined xs ys)
+
+pub values_stand : (f : Folded) (xs : List CutOff) (on : GoOn xs) → OfNext (λ (x : CutOff). x.run.devices.fold ≡ f) xs → ValuesStand f xs on
+values_stand f [] on first = record { committed = refl; all = λ none. sym (append-nil f.opening.committed); batches = omega arith; acts = omega arith; members = tt }
+values_stand f (x ∷ xs) on first =
+    let left = on.0.0 in
+    let more : List Kept = left.adds.more in
+    let later = values_stand left.fold xs on.1 (next_fold x left xs on.0.1) in
+    let counts = same_counts x.calls left.crashed_fold left.fold left.which in
+    let own : x.opening.committed ≡ f.opening.committed = sym (ap (λ (q : Opening). q.committed) x.run.devices.opens) ∙ ap (λ (g : Folded). g.opening.committed) first in
+    let here : left.crashed_fold.opening.committed ≡ f.opening.committed ++ more = left.adds.committed ∙ ap (λ (ks : List Kept). ks ++ more) own in
+    let batches : x.run.devices.fold.batches ≡ f.batches = ap (λ (g : Folded). g.batches) first in
+    let acts : x.run.devices.fold.acts ≡ f.acts = ap (λ (g : Folded). g.acts) first in
     record {
-      committed = later.committed ∙ (ap (λ (ks : List Kept). ks ++ added_by xs on.1) (left.committed.1 ∙ ap (λ (q : Opening). q.committed ++ more) first) ∙ append_assoc o.committed more (added_by xs on.1));
-      members = (left.committed.2, later.members);
+      committed = later.committed ∙ ap (λ (ks : List Kept). kept_behind ks xs on.1) (is_kept left.which (f.opening.committed ++ more) here);
+      all = λ none. all_kept f.opening.committed (x ∷ xs) on none;
+      batches = omega (arith, later.batches, counts.0, left.adds.batches, batches, batches_joined more (added_by xs on.1));
+      acts = omega (arith, later.acts, counts.1, left.adds.acts, acts, acts_joined more (added_by xs on.1));
+      members = (left.adds.members, later.members);
     }

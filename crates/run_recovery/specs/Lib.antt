@@ -7,7 +7,7 @@ pub mod Beginnings
 pub mod Stands
 pub mod Next
 pub mod Recoverable
-pub mod Unbegun
+pub mod Between
 pub mod Several
 pub use Rattle.machine_recovery.specs.recovery_laws as recovery_laws
 pub use Rattle.machine_recovery.specs as machine_recovery

@@ -1,13 +1,10 @@
 -- What the next run begins with, behind a crash at a moment of a run. Behind a run that was not cut off it is the same: the
 -- moment is the one at its end, where no append has begun, and each log is left with what is synced.
-use Rattle.std.specs.Prelude.{◌≡◌, ℕ, ◌<◌, List, length}
+use Rattle.std.specs.Prelude.{◌≡◌, ℕ, List, length}
 use Rattle.aml_slice.specs.aml_tree.Tree.{CheckedMethod}
-use Rattle.run_opening.specs.log_opening.Kept.{IsSaid}
 use Rattle.protocol.specs.Moments.{left_in}
-use Rattle.record_log.specs.Records.{HoldsRecords}
 use Rattle.machine_recovery.specs.recovery_laws.Grown.{grown}
-use Rattle.run_opening.specs.Begins.{AreEmpty, AreOfRuns, BeganWith, Begins, IsUnspent}
-use Rattle.run_opening.specs.Opens.{records_at}
+use Rattle.run_opening.specs.Begins.{AreEmpty, BeganWith, Begins, IsUnspent}
 use Rattle.run_recovery.specs.Crashes.{Recovers, earlier}
 use Rattle.run_recovery.specs.OneRun.{TheRun, MomentOf, machine_in, reached_at}
 use Rattle.snap_base.specs.declared.transactions.State.{State}
@@ -29,16 +26,13 @@ fold_left {p} {r} {m} {images} left = fold_after (machine_in r) r.devices.fold (
 abbrev pub opening_left : {p : List CheckedMethod} {r : TheRun} {m : MomentOf r} {images : ℕ → List ℕ} → Recovers p r m images → Opening
 opening_left left = (fold_left left).opening
 
--- What a crash leaves is what a run goes on from: each log has a list of its own, and holds it; they have a record; they fold to
--- the opening; they began with the work's states; and log 0 says how many there are, where the run found logs as runs leave them. So,
--- unless a number of it is spent, a run of any text of the same states, on as many logs, begins on them with this opening; and none
+-- What a crash leaves is what a run goes on from: each log in use has a list of its own; they have a record; they fold to the opening; and
+-- they began with the work's states. So, unless a number of it is spent, a run of any text of the same states, on as many logs, begins on them with this opening; and none
 -- begins on them with another, or of other states.
 pub record GoesOnFrom {p : List CheckedMethod} {r : TheRun} {m : MomentOf r} {images : ℕ → List ℕ} (left : Recovers p r m images) : Type 0 where
   pub as_many : length (records_left left) ≡ r.work.logs
-  pub holds : (l : ℕ) → l < r.work.logs → HoldsRecords (images l) (records_at (records_left left) l)
   pub some : ¬ AreEmpty (records_left left)
   pub folded : IsFolded (records_left left) (fold_left left)
   pub same : BeganWith (records_left left) r.work.states
-  pub said : AreOfRuns r.devices.records → IsSaid (records_left left)
   pub begins : IsUnspent (opening_left left) → Begins (records_left left) r.work.states (opening_left left)
   pub alone : (states : List State) (q : Opening) → Begins (records_left left) states q → (q ≡ opening_left left) × (states ≡ r.work.states)

@@ -1,13 +1,13 @@
 -- A run of a work: what it begins with, how far it goes, and what it leaves on its logs.
-use Rattle.std.specs.Prelude.{◌≡◌, ℕ, ◌<◌, ◌≤◌, Bool, true, false, Option, List, [], ◌∷◌, ◌++◌, length, drop, map}
+use Rattle.std.specs.Prelude.{◌≡◌, ℕ, ◌+◌, ◌<◌, ◌≤◌, Bool, true, false, Option, List, [], ◌∷◌, ◌++◌, length, map}
 use Rattle.run_effects.specs.core_events.declared.events.Event.{Event}
 use Rattle.run_effects.specs.core_events.Meant.{event_meant}
 use Rattle.record_log.specs.gate_log.declared.limits.TheConstants.{FARTHEST_END}
 use Rattle.record_log.specs.gate_log.declared.logs.LogItem.{LogItem}
 use Rattle.record_log.specs.gate_log.Opened.{Opened}
 use Rattle.run_effects.specs.Driven.{tried_on}
-use Rattle.run_opening.specs.log_opening.Devices.{Device, device_at, HoldNoOld}
-use Rattle.run_opening.specs.log_opening.Kept.{DeviceHolds}
+use Rattle.run_opening.specs.log_opening.Devices.{Device, device_at, AreAside, HoldNoOld}
+use Rattle.run_opening.specs.log_opening.Kept.{AreUsed, DeviceHolds}
 pub use Rattle.machine_text.specs.Texts.{text_of, machine_of}
 use Rattle.machine_recovery.specs.compact_laws.log_compact.declared.folds.Folded.{Folded}
 use Rattle.machine_recovery.specs.compact_laws.log_compact.Sets.{IsFolded}
@@ -48,22 +48,26 @@ pub record IsRunDevice (before after : Device) (records : List Record) (groups :
   pub grew : GrewBy before.told after.told end groups tried
   pub later : before.faults ≤ after.faults
 
--- The logs, so many as the text says, lie on the first devices. They held records on which a run of the text begins with the
--- opening, none of them in format 1. Each got what is written before a run, then a group for each of its Syncs; each that failed got a front of one
--- more, of what still waits there. The devices behind them got no call.
+-- The logs in use, so many as the text says, lie on the devices from the head on. They held records on which a run of the text begins
+-- with the opening, none of them in format 1. Each got what is written before a run, then a group for each of its Syncs; each that failed
+-- got a front of one more, of what still waits there. The other devices are opened, and those that are to be cleared are cleared.
 pub record AreRunDevices (w : Work) (o : Opening) (es : List machine.Event) (failed : ℕ → Bool) (before after : List Device) : Type 0 where
+  -- the device of log 0, and the generation that the set tells
+  pub head : ℕ
+  pub generation : ℕ
   pub records : List (List Record)
   pub added : List Record
   pub as_many : length records ≡ w.logs
+  pub used : AreUsed w.logs before head w.logs generation
   pub start : IsStart records w.states o added
   -- what the logs fold to as the run begins
   pub fold : Folded
   pub folds : IsFolded (with_first records added) fold
   pub opens : fold.opening ≡ o
-  pub recent : HoldNoOld w.logs before
-  pub each : (l : ℕ) → l < w.logs → IsRunDevice (device_at before l) (device_at after l) (records_at records l)
+  pub recent : HoldNoOld head w.logs before
+  pub each : (l : ℕ) → l < w.logs → IsRunDevice (device_at before (head + l)) (device_at after (head + l)) (records_at records l)
       (first_groups l added ++ groups_of (machine_of w o) l es) (tried_on failed l (group_behind (machine_of w o) l es))
-  pub others : drop w.logs after ≡ drop w.logs before
+  pub aside : AreAside head w.logs generation before after
 
 -- A run of the work began with the opening and took these events, by the schedule.
 pub record HasRunWork (w : Work) (schedule : Schedule) (o : Opening) (es : List machine.Event) (failed : ℕ → Bool) (before after : List Device) : Type 0 where

@@ -1,22 +1,25 @@
--- Runs one behind the other: each is cut off by a crash; behind that may come calls in which no run began; and the next run begins on
--- the bytes that were left. Any work may follow that is of as many logs and of the same states.
-use Rattle.std.specs.Prelude.{◌≡◌, ℕ, Bool, Some, List, [], ◌∷◌, ◌++◌, length, map, ⊤}
-use Rattle.std.specs.List.{flat_map}
+-- Runs, crashes and compactions one behind the other: each run is cut off by a crash; behind that may come compactions, and other calls in
+-- which no run began; and the next run begins on the bytes that were left. Any work may follow that is of as many logs and of the same states.
+use Rattle.std.specs.Prelude.{◌≡◌, ℕ, ◌+◌, Bool, Some, List, [], ◌∷◌, ◌++◌, map, ⊤}
+use Rattle.std.specs.List.{AllByRecursion, flat_map}
 use Rattle.run_opening.specs.log_opening.Devices.{Device}
 use Rattle.machine_laws.specs.Meant.{meant_run}
 use Rattle.protocol.specs.Chains.{by_place}
 use Rattle.protocol.specs.Events as machine
 use Rattle.protocol.specs.History.{Done}
 use Rattle.machine_recovery.specs.recovery_laws.Grown.{PlacedResult, answer_at, answers_of}
-use Rattle.run_opening.specs.Begins.{AreOfRuns, Begins}
-use Rattle.run_recovery.specs.Beginnings.{BeginsAgain, CrashBefore, HoldEach, KeepsOrBegins}
-use Rattle.run_recovery.specs.Crashes.{CrashOn, Recovers}
-use Rattle.run_recovery.specs.Next.{GoesOnFrom, opening_left, records_left}
+use Rattle.run_opening.specs.Begins.{Begins}
+use Rattle.run_recovery.specs.Beginnings.{BeginsAgain, CrashBefore}
+use Rattle.run_recovery.specs.Crashes.{CrashOn, FindsRunsLogs, Recovers}
+use Rattle.run_opening.specs.log_opening.Cuts.{HoldFour, TellBytes}
+use Rattle.run_recovery.specs.Next.{GoesOnFrom, fold_left}
 use Rattle.run_recovery.specs.OneRun.{TheRun, MomentOf, the_run}
-use Rattle.run_recovery.specs.Recoverable.{TellBytes}
 use Rattle.run_recovery.specs.Runs.{HasRunWork, machine_of}
 use Rattle.run_recovery.specs.Schedules.{Schedule}
-use Rattle.run_recovery.specs.Unbegun.{AreUnbegun, left_last}
+use Rattle.run_recovery.specs.Between.{AreBetween, Call, HasCompaction, IsFoldBehind, KeepFour, LeadTo, compacted, left_last, still}
+use Rattle.machine_recovery.specs.compact_laws.log_compact.declared.folds.Folded.{Folded}
+use Rattle.machine_recovery.specs.compact_laws.log_compact.Finding.{IsLeftByRuns, IsUsed}
+use Rattle.machine_recovery.specs.compact_laws.log_compact.Sets.{count_acts, count_batches, logs_from}
 use Rattle.snap_recover.specs.declared.openings.Kept.{Kept}
 use Rattle.snap_recover.specs.declared.openings.Opening.{Opening}
 use Rattle.snap_work.specs.Kept.{KeepsLimits}
@@ -30,8 +33,8 @@ pub data Crash (r : TheRun) (images : ℕ → List ℕ) : Type 0 where
   Early : (crash : CrashBefore r images) → Crash r images
   Within : (m : MomentOf r) (crash : CrashOn r m images) → Crash r images
 
--- A run of a work that keeps its limits; the crash, and the bytes that it left; and the calls behind it in which no run began, with
--- the bytes that each of them left.
+-- A run of a work that keeps its limits; the crash, and the bytes that it left; and the calls behind it, with the bytes that each of them
+-- left.
 pub record CutOff : Type 0 where
   pub work : Work
   pub schedule : Schedule
@@ -44,8 +47,8 @@ pub record CutOff : Type 0 where
   pub run : HasRunWork work schedule opening events failed before after
   pub images : ℕ → List ℕ
   pub crash : Crash (the_run run) images
-  pub calls : List (ℕ → List ℕ)
-  pub unbegun : AreUnbegun work.logs work.states images calls
+  pub calls : List Call
+  pub between : AreBetween work.logs work.states images calls
 
 -- the bytes that are left behind it and the calls
 abbrev pub bytes_left : CutOff → ℕ → List ℕ
@@ -55,7 +58,7 @@ bytes_left x = left_last x.images x.calls
 pub record IsBehindCutOff (x y : CutOff) : Type 0 where
   pub logs : y.work.logs ≡ x.work.logs
   pub states : y.work.states ≡ x.work.states
-  pub told : TellBytes x.work.logs y.before (bytes_left x)
+  pub told : TellBytes y.before (bytes_left x)
 
 -- P holds of the first of them, where there is one
 abbrev pub OfNext : (CutOff → Type 0) → List CutOff → Type 0
@@ -69,11 +72,11 @@ EachIsBehind (x ∷ xs) = OfNext (IsBehindCutOff x) xs × EachIsBehind xs
 
 -- ---- what it left
 
--- What the crash left. Where it came while the run began, no record is lost, and a run begins as this one did. At a moment of the run
--- its members are left, and a run goes on from them.
-abbrev pub LeftBy : (x : CutOff) → Crash (the_run x.run) x.images → List (List Record) → Opening → Type 0
-LeftBy x (Early crash) records o = (b : BeginsAgain (the_run x.run) x.images) × (records ≡ b.kept) × (o ≡ x.opening)
-LeftBy x (Within m crash) records o = (left : Recovers x.work.program (the_run x.run) m x.images) × GoesOnFrom left × (records ≡ records_left left) × (o ≡ opening_left left)
+-- What the crash left on the four devices, and to what these lead. Where it came while the run began, no record of the logs in use is
+-- lost, and a run begins as this one did. At a moment of the run its members are left, and a run goes on from them.
+abbrev pub LeftBy : (x : CutOff) → Crash (the_run x.run) x.images → (ℕ → List Record) → Folded → Type 0
+LeftBy x (Early crash) now f = (b : BeginsAgain (the_run x.run) x.images) × (now ≡ b.now) × (f ≡ x.run.devices.fold)
+LeftBy x (Within m crash) now f = (left : Recovers x.work.program (the_run x.run) m x.images) × GoesOnFrom left × (now ≡ left.now) × (f ≡ fold_left left)
 
 -- What recovery gives of the run beside what was committed before it. Where the crash came while the run began it is nothing. At a
 -- moment of the run it is members of it, in the order of their places; and the values that it gives are the results that these have
@@ -84,25 +87,46 @@ AddsMembers x (Within m crash) more =
     (ds : List Done) × (flat_map answers_of more ≡ map answer_at (by_place ds))
     × (map (λ (y : PlacedResult). y.2) (flat_map answers_of more) ≡ map Some (meant_run x.work.program (machine_of x.work x.opening) ds).results)
 
--- The records with which the crash left the logs, those with which the calls behind it left them, and the opening with which alone a
--- run of the same states begins on these. What was committed before the run stands first in it. They are as runs leave them, where
--- the run found them so.
-pub record Left (x : CutOff) (crash : Crash (the_run x.run) x.images) : Type 0 where
-  pub crashed : List (List Record)
-  pub records : List (List Record)
-  pub opening : Opening
-  pub by : LeftBy x crash crashed opening
-  pub which : KeepsOrBegins x.work.logs x.work.states crashed records
-  pub as_many : length records ≡ x.work.logs
-  pub holds : HoldEach x.work.logs (bytes_left x) records
-  pub alone : (q : Opening) → Begins records x.work.states q → q ≡ opening
-  pub said : AreOfRuns x.run.devices.records → AreOfRuns records
-  pub committed : (more : List Kept) × (opening.committed ≡ x.opening.committed ++ more) × AddsMembers x crash more
+-- These stand behind what was committed before the run, and are counted.
+pub record Adds (x : CutOff) (crash : Crash (the_run x.run) x.images) (f : Folded) : Type 0 where
+  pub more : List Kept
+  pub committed : f.opening.committed ≡ x.opening.committed ++ more
+  pub batches : f.batches ≡ x.run.devices.fold.batches + count_batches more
+  pub acts : f.acts ≡ x.run.devices.fold.acts + count_acts more
+  pub members : AddsMembers x crash more
 
--- the run y began on these records, with this opening
+pub record Left (x : CutOff) (crash : Crash (the_run x.run) x.images) : Type 0 where
+  -- the records with which the crash left the four devices, and to what the logs in use lead there
+  pub crashed : ℕ → List Record
+  pub crashed_fold : Folded
+  pub by : LeftBy x crash crashed crashed_fold
+  pub adds : Adds x crash crashed_fold
+  -- the records with which the calls behind it left them, and the logs that are in use then, as runs leave them, where the run found them so
+  pub now : ℕ → List Record
+  pub holds : HoldFour (bytes_left x) now
+  pub head : ℕ
+  pub generation : ℕ
+  pub used : IsUsed now x.work.logs head x.work.logs generation
+  pub set : FindsRunsLogs (the_run x.run) → IsLeftByRuns now head x.work.logs
+  pub unbegun : ¬ HasCompaction x.calls → (head ≡ x.run.devices.head) × (generation ≡ x.run.devices.generation) × KeepFour x.work.logs x.work.states crashed now
+  -- and to what these lead, with which opening alone a run of the same states begins on them
+  pub fold : Folded
+  pub which : IsFoldBehind x.calls crashed_fold fold
+  pub leads : LeadTo (logs_from now head x.work.logs) x.work.states fold
+  pub alone : (q : Opening) → Begins (logs_from now head x.work.logs) x.work.states q → q ≡ fold.opening
+
+-- the records of the logs in use
+abbrev pub in_use : {x : CutOff} {crash : Crash (the_run x.run) x.images} → Left x crash → List (List Record)
+in_use {x} {crash} left = logs_from left.now left.head x.work.logs
+
+-- The run y began on these records of the same logs in use, with what they lead to; and where they are as runs leave them, it found them so.
 pub record BeganOn {x : CutOff} {crash : Crash (the_run x.run) x.images} (left : Left x crash) (y : CutOff) : Type 0 where
-  pub records : y.run.devices.records ≡ left.records
-  pub opening : y.opening ≡ left.opening
+  pub head : y.run.devices.head ≡ left.head
+  pub generation : y.run.devices.generation ≡ left.generation
+  pub records : y.run.devices.records ≡ in_use left
+  pub fold : y.run.devices.fold ≡ left.fold
+  pub opening : y.opening ≡ left.fold.opening
+  pub found : IsLeftByRuns left.now left.head x.work.logs → FindsRunsLogs (the_run y.run)
 
 -- Each of them is recovered, and the next one began with just that.
 abbrev pub GoOn : List CutOff → Type 0
@@ -110,27 +134,46 @@ GoOn [] = ⊤
 GoOn (x ∷ xs) = ((left : Left x x.crash) × OfNext (BeganOn left) xs) × GoOn xs
 
 -- its run found logs as runs leave them
-abbrev pub FindsRunsLogs : CutOff → Type 0
-FindsRunsLogs x = AreOfRuns x.run.devices.records
+abbrev pub FoundByRuns : CutOff → Type 0
+FoundByRuns x = FindsRunsLogs (the_run x.run)
 
 -- ---- the values that recovery gives behind all of them
 
--- the opening with which a run would begin there, where the first of them began with this one
-abbrev pub opening_behind : Opening → (xs : List CutOff) → GoOn xs → Opening
-opening_behind o [] on = o
-opening_behind o (x ∷ xs) on = opening_behind on.0.0.opening xs on.1
+-- what the logs lead to there, where they led to this before the first of them
+abbrev pub fold_behind : Folded → (xs : List CutOff) → GoOn xs → Folded
+fold_behind f [] on = f
+fold_behind f (x ∷ xs) on = fold_behind on.0.0.fold xs on.1
 
 -- what each of them adds, one behind the other
 abbrev pub added_by : (xs : List CutOff) → GoOn xs → List Kept
 added_by [] on = []
-added_by (x ∷ xs) on = on.0.0.committed.0 ++ added_by xs on.1
+added_by (x ∷ xs) on = on.0.0.adds.more ++ added_by xs on.1
 
 abbrev pub EachAddsMembers : (xs : List CutOff) → GoOn xs → Type 0
 EachAddsMembers [] on = ⊤
-EachAddsMembers (x ∷ xs) on = AddsMembers x x.crash on.0.0.committed.0 × EachAddsMembers xs on.1
+EachAddsMembers (x ∷ xs) on = AddsMembers x x.crash on.0.0.adds.more × EachAddsMembers xs on.1
 
--- Recovery gives what was committed before the first of them, and behind that what each of them adds: members, with the values that
--- they give alone.
-pub record ValuesStand (o : Opening) (xs : List CutOff) (on : GoOn xs) : Type 0 where
-  pub committed : (opening_behind o xs on).committed ≡ o.committed ++ added_by xs on
+-- what is kept of these behind calls: all, or, where a compaction took effect, nothing
+abbrev pub kept_by : {calls : List Call} {f g : Folded} → IsFoldBehind calls f g → List Kept → List Kept
+kept_by (still same) ks = ks
+kept_by (compacted among same later since) ks = []
+
+-- What is kept behind all of them, where this was kept before the first: it and what each of them adds, since the last compaction that took
+-- effect.
+abbrev pub kept_behind : List Kept → (xs : List CutOff) → GoOn xs → List Kept
+kept_behind ks [] on = ks
+kept_behind ks (x ∷ xs) on = kept_behind (kept_by on.0.0.which (ks ++ on.0.0.adds.more)) xs on.1
+
+-- no compaction is among the calls
+abbrev pub HaveNoCompaction : List CutOff → Type 0
+HaveNoCompaction xs = AllByRecursion (λ (x : CutOff). ¬ HasCompaction x.calls) xs
+
+-- Recovery gives what was committed before the first of them, and behind that what each of them adds, since the last compaction that took
+-- effect; where no compaction is among them it gives all. Each adds members, with the values that they give alone; and they are
+-- counted all, whether or not a compaction stands in their place.
+pub record ValuesStand (f : Folded) (xs : List CutOff) (on : GoOn xs) : Type 0 where
+  pub committed : (fold_behind f xs on).opening.committed ≡ kept_behind f.opening.committed xs on
+  pub all : HaveNoCompaction xs → kept_behind f.opening.committed xs on ≡ f.opening.committed ++ added_by xs on
+  pub batches : (fold_behind f xs on).batches ≡ f.batches + count_batches (added_by xs on)
+  pub acts : (fold_behind f xs on).acts ≡ f.acts + count_acts (added_by xs on)
   pub members : EachAddsMembers xs on

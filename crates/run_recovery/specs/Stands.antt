@@ -39,9 +39,9 @@ pub record RunStands (r : TheRun) : Type 0 where
   pub ends : RunsEnd (machine_in r) (alone_in r.work.program r) r.events
   -- where it has ended all is answered: each transaction was submitted and replied to, and nothing is under way any more
   pub answered : AnsweredWhenQuiet (machine_in r) (alone_in r.work.program r) (reached_in r) (history_in r)
-  -- a crash while it begins loses no record, and a run of the same states begins on what is left
+  -- a crash while it begins loses no record of the logs in use, and a run of the same states begins on what is left
   pub begins : (images : ℕ → List ℕ) → CrashBefore r images → BeginsAgain r images
   -- whatever a crash leaves at any moment of it recovers
   pub recovers : (m : MomentOf r) (images : ℕ → List ℕ) → CrashOn r m images → Recovers r.work.program r m images
-  -- and what it leaves is what the next run goes on from, and what the call that prints what the logs recover to goes by
+  -- and what it leaves is what the next run goes on from
   pub goes_on : (m : MomentOf r) (images : ℕ → List ℕ) → (left : Recovers r.work.program r m images) → GoesOnFrom left

@@ -9,4 +9,17 @@ returns c = recovers (methods_of c.args.program.now) (record {
   in_order = c.recovered_transactions_are_in_order.ensures;
   moment = c.groups_are_whole.ensures.moment;
   durable = c.groups_grow.ensures.durable;
+  four = record {
+    log = record {
+      adds = c.opening_is_safe.ensures.adds;
+      gives = c.opening_is_safe.ensures.gives;
+      keeps = c.opening_is_safe.ensures.keeps;
+      clears = c.clear_is_safe.ensures.keeps;
+      list = c.one_list.ensures;
+      found = c.logs_are_lists.ensures.placed;
+    };
+    sets = record { one = c.one_use.ensures; tell = c.fronts_tell.ensures; fronts = c.fronts_of_records.ensures; clear = c.clearing_keeps.ensures; begin = c.begun_is_set.ensures };
+    lists = c.one_list_of_records.ensures;
+  };
+  stays = c.used_stays.ensures;
 })

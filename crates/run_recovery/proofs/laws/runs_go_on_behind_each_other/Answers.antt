@@ -13,8 +13,11 @@ returns c xs of_them behind =
       begin = c.beginnings_are_recovered.ensures;
       go_on = c.crashed_runs_go_on.ensures;
       fold = c.one_fold.ensures;
+      written = c.begun_lists_fold.ensures;
+      begun = c.folds_are_begun.ensures;
       list = c.one_list_of_records.ensures;
-      calls = c.unbegun_calls_lose_nothing.ensures;
+      sets = record { one = c.one_use.ensures; tell = c.fronts_tell.ensures; fronts = c.fronts_of_records.ensures; clear = c.clearing_keeps.ensures; begin = c.begun_is_set.ensures };
+      calls = c.calls_between_runs_lose_nothing.ensures;
     }) (map methods_of ps) all xs of_them behind
 
 pub loop-program-preserved : goal.loop-program-preserved
