@@ -1,5 +1,6 @@
 -- From the answer of a call to papers in order.
-use Rattle.std.proofs.Common.{◌≡◌, ℕ, suc, ◌<◌, Bool, List, [], ◌∷◌, ◌++◌, length, Option, Some, IfSome, slice_index_or, refl, sym, ap, ◌∙◌, subst, inl, inr, arith}
+use Rattle.std.proofs.Common.{◌≡◌, ℕ, suc, ◌+◌, ◌<◌, ◌≤◌, Bool, List, [], ◌∷◌, ◌++◌, length, take, Option, Some, IfSome, slice_index_or, refl, sym, ap, ◌∙◌, subst, inl, inr, arith}
+use Rattle.std.proofs.lemmas.Bool.{cases_lt}
 use Rattle.std.proofs.lemmas.List.{append-nil, append_assoc}
 use Rattle.std.specs.Io.KnownBytes.{Appends}
 use Rattle.std.specs.List.{AllByRecursion}
@@ -9,25 +10,30 @@ use Rattle.audit_words.specs.Papers.{AreWhole, ended}
 use Rattle.command_words.specs.CommandLaws.{OneCommand}
 use Rattle.record_log.specs.Records.{HoldsRecords}
 use Rattle.record_log.specs.RecordLogLaws.{OneListOfRecords}
-use Rattle.record_log.specs.snap_outside.Disk.{content}
+use Rattle.record_log.specs.snap_outside.Disk.{DeviceHistory, content}
 use Rattle.record_log.specs.txn_records.declared.records.Record.{Record}
+use Rattle.record_log.specs.txn_records.declared.records.Record.TheVariants.{Genesis}
 use Rattle.run_opening.specs.Begins.{AreEmpty, fresh_opening}
 use Rattle.run_opening.specs.Opens.{TellsRecords, records_at}
 use Rattle.run_opening.specs.log_opening.Devices.{Device, device_at}
-use Rattle.run_opening.specs.log_opening.Kept.{DeviceHolds}
+use Rattle.run_opening.specs.log_opening.Kept.{AreUsed, DeviceHolds}
+use Rattle.run_opening.specs.log_opening.log_compact.Finding.{IsUsed}
+use Rattle.run_opening.specs.log_opening.log_compact.Fronts.{FrontsOfRecords, HoldsFront}
+use Rattle.run_opening.specs.log_opening.log_compact.Sets.{IsHead}
 use Rattle.run_opening.specs.snap_recover.declared.openings.Opening.{Opening}
 use Rattle.run_recovery.specs.Runs.{HasEnded, HasRunWork, machine_of, meant}
 use Rattle.run_recovery.specs.Schedules.{Schedule, seeded, free}
 use Rattle.run_work.specs.Runs.{IsWorkAnswer}
 use Rattle.run_work.specs.Writings.{Writing, Writes}
 use Rattle.run_work.specs.core_events.declared.events.Event.{Event}
+use Rattle.run_work.specs.snap_base.declared.transactions.State.{State}
 use Rattle.run_work.specs.protocol.Events as machine
 use Rattle.run_work.specs.protocol.Runs.{IsRun}
 use Rattle.run_work.specs.run_effects.Lines.{report_text}
 use Rattle.snap_report.specs.declared.statuses.Status.{Status}
 use Rattle.snap_report.specs.declared.statuses.Status.TheVariants as status
-use Rattle.snap_run.proofs.Outcomes.{not_both, run_not_gen, run_not_bench, run_not_migrate, run_not_audit}
-use Rattle.snap_run.specs.Answers.{IsAnswer, ran, recovered, generated, measured, migrated, audited, refused, IsInputAnswer, input_refused, input_memory, input_read_fault, IsRunAnswer, ran_of, schedule_asked}
+use Rattle.snap_run.proofs.Outcomes.{not_both, run_not_gen, run_not_bench, run_not_migrate, run_not_compact, run_not_audit}
+use Rattle.snap_run.specs.Answers.{IsAnswer, ran, recovered, generated, measured, migrated, compacted, audited, refused, IsInputAnswer, input_refused, input_memory, input_read_fault, IsRunAnswer, ran_of, schedule_asked}
 use Rattle.snap_run.specs.Uses.{Reading, Use}
 use Rattle.snap_work.specs.Works.{Work}
 use Rattle.trace_text.specs.Lines.{IsEvent, event_line}
@@ -75,14 +81,55 @@ all_empty : (logs : List (List Record)) → ((l : ℕ) → l < length logs → s
 all_empty [] h = tt
 all_empty (rs ∷ logs) h = (h 0 (omega arith), all_empty logs (λ l lt. h (suc l) (omega (arith, lt))))
 
+-- no device is a head: one that holds no record is none, and the first two records of one tell whether it is
+not_begun : (d : ℕ) (front : List Record) (many : ℕ) (states : List State) → front ≡ [] → ¬ IsHead d front many states
+not_begun d front many states none is = let bad : [] ≡ Genesis many states ∷ is.rest = sym none ∙ is.begins in absurd (cc)
+
+head_of_front : (d : ℕ) (rs : List Record) (many : ℕ) (states : List State) → IsHead d (take 2 rs) many states → IsHead d rs many states
+head_of_front d [] many states is = absurd (not_begun d [] many states refl is)
+head_of_front d (r ∷ rs) many states is =
+    let first : r ≡ Genesis many states = cc_first r (take 1 rs) many states is.rest is.begins in
+    record { low = is.low; rest = rs; begins = ap (λ (x : Record). x ∷ rs) first; side = is.side }
+  where
+    cc_first : (r : Record) (front : List Record) (many : ℕ) (states : List State) (rest : List Record) → r ∷ front ≡ Genesis many states ∷ rest → r ≡ Genesis many states
+    cc_first r front many states rest e = cc
+
+module _ (fronts : FrontsOfRecords) (w : Work) (before : List Device) (nothing : HoldNothing w before) where
+  -- of a device that tells its records these are in front
+  front_is : (d : ℕ) (rs front : List Record) → TellsRecords (device_at before d) rs → IfSome (device_at before d).told (λ h. HoldsFront (content h) front) → front ≡ take 2 rs
+  front_is d rs front tells holds = fronts.one (content tells.0) rs front tells.2 (subst (λ (m : Option DeviceHistory). IfSome m (λ h. HoldsFront (content h) front)) tells.1 holds)
+
+  -- so there is no set, and the logs lie on the first devices
+  begins_at_first : (head generation : ℕ) → AreUsed w.logs before head w.logs generation → head ≡ 0
+  begins_at_first head generation used = at used.used
+    where
+      no_head : (many : ℕ) (states : List State) → IsHead head (used.fronts head) many states → ⊥
+      no_head many states is =
+          let low : head < 3 = is.low in
+          let holds = used.each head (omega (arith, low)) in
+          elim (cases_lt head w.logs) [
+            | inl below ↦ not_begun head (used.fronts head) many states (front_is head [] (used.fronts head) (nothing.empty head below) holds) is
+            | inr other ↦
+                let no = nothing.others head other low in
+                no.2 many states (head_of_front head no.0 many states (subst (λ (front : List Record). IsHead head front many states) (front_is head no.0 (used.fronts head) no.1 holds) is))
+          ]
+
+      at : IsUsed used.fronts w.logs head w.logs generation → head ≡ 0
+      at (inl set) = absurd (no_head w.logs set.first set.is_head)
+      at (inr none) = none.1
+
 -- a run on logs that hold nothing begins with the work's states
-opens_fresh : OneListOfRecords → (w : Work) (schedule : Schedule) (o : Opening) (es : List machine.Event) (failed : ℕ → Bool) (before after : List Device)
+opens_fresh : OneListOfRecords → FrontsOfRecords → (w : Work) (schedule : Schedule) (o : Opening) (es : List machine.Event) (failed : ℕ → Bool) (before after : List Device)
     → HoldNothing w before → HasRunWork w schedule o es failed before after → o ≡ fresh_opening w.states
-opens_fresh one w schedule o es failed before after nothing run = elim run.devices.start [
+opens_fresh one fronts w schedule o es failed before after nothing run = elim run.devices.start [
   | inl begun ↦ begun.1
   | inr goes ↦ absurd (goes.0.some (all_empty run.devices.records (λ l lt.
       let below : l < w.logs = omega (arith, lt, run.devices.as_many) in
-      none_held one (device_at before l) (records_at run.devices.records l) (nothing l below) (run.devices.each l below).held)))
+      let first : run.devices.head ≡ 0 = begins_at_first fronts w before nothing run.devices.head run.devices.generation run.devices.used in
+      let here : run.devices.head + l ≡ l = omega (arith, first) in
+      let held : DeviceHolds (device_at before l) (records_at run.devices.records l) =
+      subst (λ (d : ℕ). DeviceHolds (device_at before d) (records_at run.devices.records l)) here (run.devices.each l below).held in
+      none_held one (device_at before l) (records_at run.devices.records l) (nothing.empty l below) held)))
 ]
 
 -- by any schedule its events are a run of the machine
@@ -99,14 +146,14 @@ not_done r s e (input_refused line cause enough fault) = cc
 not_done r s e input_memory = cc
 not_done r s e (input_read_fault rose) = cc
 
-module _ (one : OneCommand) (once : OneWork) (records : OneListOfRecords) (seeds : SeedsPickRuns) (prints : PrintedTraces) (w : Work) (quiet : QuietRunsAreInOrder w)
+module _ (one : OneCommand) (once : OneWork) (records : OneListOfRecords) (fronts : FrontsOfRecords) (seeds : SeedsPickRuns) (prints : PrintedTraces) (w : Work) (quiet : QuietRunsAreInOrder w)
     (u : Use) (text trace report : List ℕ) (first : IsFirstRun w u text trace report)
   where
     of_answer : (schedule : Schedule) → IsWorkAnswer (ran_of u w schedule) status.Done → IsInOrder (input_of text trace report)
     of_answer schedule a =
         let es = meant u.kept in
         let o : Opening = a.0.0 in
-        let fresh : o ≡ fresh_opening w.states = opens_fresh records w schedule o es _ u.devices_before u.devices_after first.empty a.0.1 in
+        let fresh : o ≡ fresh_opening w.states = opens_fresh records fronts w schedule o es _ u.devices_before u.devices_after first.empty a.0.1 in
         let taken : IsRun (machine_of w o) es = is_run seeds w schedule o es _ u.devices_before u.devices_after a.0.1 in
         let printed : report ≡ report_text (machine_of w o) es = taken_is u.writing report (report_text (machine_of w o) es) first.printed a.0.3.1 in
         let traced : trace ≡ trace_of u.kept = taken_is u.tracing trace (trace_of u.kept) first.traced a.1 in
@@ -127,5 +174,6 @@ module _ (one : OneCommand) (once : OneWork) (records : OneListOfRecords) (seeds
     in_order (generated count seed gen _ _ _) = absurd (run_not_gen one u.words first.run.0 first.run.1 count seed first.run.2 gen)
     in_order (measured count seed n bench _ _) = absurd (run_not_bench one u.words first.run.0 first.run.1 count seed n first.run.2 bench)
     in_order (migrated migrate _ _ _ _) = absurd (run_not_migrate one u.words first.run.0 first.run.1 first.run.2 migrate)
+    in_order (compacted compact _ _ _ _) = absurd (run_not_compact one u.words first.run.0 first.run.1 first.run.2 compact)
     in_order (audited audit _ _) = absurd (run_not_audit one u.words first.run.0 first.run.1 first.run.2 audit)
     in_order (refused place is _ _ _) = let e : status.Done ≡ status.Usage place = is in cc

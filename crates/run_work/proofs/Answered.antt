@@ -1,8 +1,7 @@
 -- How a call ends, from how a run ended and what was written of its trace.
-use Rattle.std.proofs.Common.{◌≡◌, ◌≢◌, ◌⊎◌, inl, inr, ℕ, ◌<◌, Bool, true, Result, Ok, Err, List, [], length, append-nil, refl, sym, ◌∙◌, ap, subst}
+use Rattle.std.proofs.Common.{◌≡◌, ◌≢◌, ◌⊎◌, inl, inr, ℕ, ◌+◌, ◌<◌, ◌≤◌, Bool, true, Result, Ok, Err, List, [], length, append-nil, refl, sym, ◌∙◌, ap, subst, arith}
 use Rattle.std.proofs.KnownBytes.{Keeps-refl}
 use Rattle.std.specs.Io.KnownBytes.{Keeps}
-use Rattle.std.proofs.lemmas.Bool.{eq-eqb}
 use Rattle.std.specs.List.{list_all}
 use Rattle.snap_core.specs.aml_slice.Controls.{Rest}
 use Rattle.snap_core.specs.core_events.declared.events.Event.{Event}
@@ -19,10 +18,11 @@ use Rattle.run_recovery.specs.Schedules.{Schedule, seeded, free}
 use Rattle.run_recovery.specs.OneRun.{the_run}
 use Rattle.run_recovery.specs.Stands.{RunStands}
 use Rattle.run_work.proofs.Ending.{StopsAtFault, untraced_of}
+use Rattle.run_work.proofs.Hosting.{failed_there}
 use Rattle.run_work.specs.Hosts.{LeftFailed, HasHosted}
-use Rattle.run_work.specs.Runs.{Printing, RunUse, EachHasReply, HasFailed, IsAnswerOf, LogRose, PrintsFailed, IsOfLogs, printed_of}
+use Rattle.run_work.specs.Runs.{Printing, reporting, RunUse, EachFailed, EachHasReply, HasFailed, IsAnswerOf, LogRose, PrintsFailed, IsOfLogs, printed_of}
 use Rattle.run_work.specs.Statuses.{logs_status}
-use Rattle.run_work.specs.Untraced.{IsRunEnd, RunLeft, IsNoBeginning, IsUntraced, IsTraced, EndsUntraced, IsCallEnd}
+use Rattle.run_work.specs.Untraced.{IsRunEnd, RunLeft, IsNoBeginning, IsUntraced, IsTraced, EndsUntraced, IsCallEnd, HasLogFault}
 use Rattle.run_work.specs.declared.hosts.Hosted.{Hosted}
 use Rattle.run_work.specs.Writings.{Writing, writing_of, WritesNothing, Writes, WritesLines}
 use Rattle.snap_base.specs.declared.transactions.State.{State}
@@ -41,9 +41,12 @@ use Rattle.solo_host.specs.run_effects.Driven.{none_failed, only_failed}
 -- a device that failed is told by its count
 no_run_rose : (count : ℕ) (states : List State) (before after : List Device) (log : ℕ) → IsNoRun count states before after (ending.Device log)
     → Rose (device_at before log).faults (device_at after log).faults
-no_run_rose count states before after log (inl (inl why, touched)) = why.1
-no_run_rose count states before after log (inl (inr why, touched)) = absurd why.records.3
-no_run_rose count states before after log (inr (is, fails)) =
+no_run_rose count states before after log (inl (inl (inl fails), touched)) = fails.rose
+no_run_rose count states before after log (inl (inl (inr fails), touched)) = fails.rose
+no_run_rose count states before after log (inl (inr none, touched)) = absurd none.why
+no_run_rose count states before after log (inr (inl (at, is, fails))) =
+    let there : log ≡ at = cc in subst (λ (n : ℕ). Rose (device_at before n).faults (device_at after n).faults) (sym there) fails.rose
+no_run_rose count states before after log (inr (inr (is, fails))) =
     let first : log ≡ 0 = cc in subst (λ (n : ℕ). Rose (device_at before n).faults (device_at after n).faults) (sym first) fails.rose
 
 unbegun_answer : (p : Printing) (r : RunUse) (why : LogsNo) → WritesNothing r.trace → IsNoBeginning p r why → IsAnswerOf p r (logs_status why)
@@ -69,31 +72,37 @@ all_replied : (r : RunUse) → EachStands r → MarksAreReplies → (o : Opening
     → HasEnded r.work o (meant r.kept) → EachHasReply (length r.work.txs) (meant r.kept)
 all_replied r stands marks o failed run ended = marks (machine_of r.work o) (meant r.kept) ((stands o failed run).answered ended).0.replied
 
--- the log that the status names is one of the work's, and its count rose
-rose_there : (r : RunUse) (o : Opening) (schedule : Schedule) (log : ℕ) → LeftFailed (RunLeft r o) r.work schedule o (meant r.kept) log → (log < r.work.logs) × LogRose r log
-rose_there r o (seeded seed) log left = left.0.rose log (eq-eqb log log refl)
-rose_there r o free log left = left.2.rose log left.1.is
+-- the log whose device the status names is one of the work's, and its device's count rose
+rose_there : (r : RunUse) (head : ℕ) (o : Opening) (device : ℕ) (end : HasLogFault (RunLeft r head o) head (printed_of reporting r o (meant r.kept)) device) → (end.0 < r.work.logs) × LogRose r device
+rose_there r head o device (l, is, left) =
+    let x = failed_there r.work r.schedule head o (meant r.kept) r.devices_before r.devices_after r.schedule l left in (x.0, subst (λ (n : ℕ). LogRose r n) (sym is) x.1)
 
-failed_answer : (r : RunUse) → EachStands r → (o : Opening) (schedule : Schedule) (log : ℕ) → WritesLines traced_line r.trace [] r.kept
-    → LeftFailed (RunLeft r o) r.work schedule o (meant r.kept) log → (P : Opening → List machine.Event → Type 0) → P o (meant r.kept) → HasFailed r schedule log P
-failed_answer r stands o (seeded seed) log front left P printed = (o, left.0.run, stands o (only_failed log) left.0.run, (left.1, printed), front)
-failed_answer r stands o free log front left P printed =
-    (left.0, left.1, (o, left.2.run, stands o left.0 left.2.run, (λ l is. ((left.2.rose l is).0, (left.2.rose l is).1, left.3 l is), printed), front))
+failed_answer : (r : RunUse) → EachStands r → (head : ℕ) (o : Opening) (schedule : Schedule) (device l : ℕ) → device ≡ head + l → WritesLines traced_line r.trace [] r.kept
+    → LeftFailed (RunLeft r head o) r.work schedule o (meant r.kept) l → (P : Opening → List machine.Event → Type 0) → P o (meant r.kept) → HasFailed r schedule device P
+failed_answer r stands head o (seeded seed) device l is front left P printed =
+    let on = left.0.first in
+    (l, (o, left.0.run, stands o (only_failed l) left.0.run, (is ∙ ap (λ (n : ℕ). n + l) (sym on), left.1, printed), front))
+failed_answer r stands head o free device l is front left P printed =
+    let on = left.2.first in
+    let each : EachFailed r left.2.run.devices.head left.0 o (meant r.kept) =
+    λ k failed. let x = left.2.rose k failed in (x.0, subst (λ (n : ℕ). LogRose r (n + k)) (sym on) x.1, left.3 k failed) in
+    (left.0, l, left.1, (o, left.2.run, stands o left.0 left.2.run, (is ∙ ap (λ (n : ℕ). n + l) (sym on), each, printed), front))
 
-begun_answer : (p : Printing) (r : RunUse) → EachStands r → MarksAreReplies → (o : Opening) (s : Status) → WritesLines traced_line r.trace [] r.kept → (s ≡ status.Done → Writes r.trace (trace_of r.kept))
-    → IsRunEnd (RunLeft r o) (printed_of p r o (meant r.kept)) s → IsAnswerOf p r s
-begun_answer p r stands marks o status.Done front whole end = ((o, end.0.run, stands o none_failed end.0.run, ((end.1, all_replied r stands marks o none_failed end.0.run end.1), end.2), front), whole refl)
-begun_answer p r stands marks o (status.Usage place) front whole end = end
-begun_answer p r stands marks o (status.Input line cause) front whole end = end
-begun_answer p r stands marks o (status.Logs log offset cause) front whole end = absurd end
-begun_answer p r stands marks o status.Memory front whole end = inr (o, end.0.run, stands o none_failed end.0.run, end.1, front)
-begun_answer p r stands marks o status.ReadFault front whole end = end
-begun_answer p r stands marks o (status.LogFault log) front whole end =
-    ((rose_there r o r.schedule log end.0).1, inr (failed_answer r stands o r.schedule log front end.0 (λ o es. PrintsFailed log (printed_of p r o es)) end.1))
-begun_answer p r stands marks o status.OutFault front whole end = (end.1, (o, end.0.run, stands o none_failed end.0.run, end.2, front))
-begun_answer p r stands marks o status.TraceFault front whole end = absurd end
-begun_answer p r stands marks o (status.Audit fault) front whole end = end
-begun_answer p r stands marks o (status.Compact logs) front whole end = end
+begun_answer : (p : Printing) (r : RunUse) → EachStands r → MarksAreReplies → (head : ℕ) (o : Opening) (s : Status) → WritesLines traced_line r.trace [] r.kept → (s ≡ status.Done → Writes r.trace (trace_of r.kept))
+    → IsRunEnd (RunLeft r head o) head (printed_of p r o (meant r.kept)) s → IsAnswerOf p r s
+begun_answer p r stands marks head o status.Done front whole end = ((o, end.0.run, stands o none_failed end.0.run, ((end.1, all_replied r stands marks o none_failed end.0.run end.1), end.2), front), whole refl)
+begun_answer p r stands marks head o (status.Usage place) front whole end = end
+begun_answer p r stands marks head o (status.Input line cause) front whole end = end
+begun_answer p r stands marks head o (status.Logs log offset cause) front whole end = absurd end
+begun_answer p r stands marks head o status.Memory front whole end = inr (o, end.0.run, stands o none_failed end.0.run, end.1, front)
+begun_answer p r stands marks head o status.ReadFault front whole end = end
+begun_answer p r stands marks head o (status.LogFault device) front whole end =
+    let x = end.0 in
+    ((rose_there r head o device x).1, inr (failed_answer r stands head o r.schedule device x.0 x.1 front x.2 (λ o es. PrintsFailed device (printed_of p r o es)) end.1))
+begun_answer p r stands marks head o status.OutFault front whole end = (end.1, (o, end.0.run, stands o none_failed end.0.run, end.2, front))
+begun_answer p r stands marks head o status.TraceFault front whole end = absurd end
+begun_answer p r stands marks head o (status.Audit fault) front whole end = end
+begun_answer p r stands marks head o (status.Compact logs) front whole end = end
 
 -- where nothing is kept nothing is traced
 abbrev Unwritten : RunUse → Type 0
@@ -103,8 +112,8 @@ same_answer : (p : Printing) (r : RunUse) → EachStands r → MarksAreReplies �
     → (before ≡ status.Done → Writes r.trace (trace_of r.kept)) → IsAnswerOf p r after
 same_answer p r stands marks before after nothing (inl (why, none, is)) same front whole =
     subst (λ (t : Status). IsAnswerOf p r t) (sym (same ∙ is)) (unbegun_answer p r why (nothing none.kept) none)
-same_answer p r stands marks before after nothing (inr (o, end)) same front whole =
-    subst (λ (t : Status). IsAnswerOf p r t) (sym same) (begun_answer p r stands marks o before front whole end)
+same_answer p r stands marks before after nothing (inr (head, o, within, end)) same front whole =
+    subst (λ (t : Status). IsAnswerOf p r t) (sym same) (begun_answer p r stands marks head o before front whole end)
 
 -- all was done, but for the trace
 done_but_traced : (p : Printing) (r : RunUse) → EachStands r → MarksAreReplies → (after : Status) → IsUntraced p r status.Done → WritesLines traced_line r.trace [] r.kept
@@ -115,9 +124,9 @@ done_but_traced p r stands marks after (inl (why, none, is)) front then = absurd
     never (ending.Refused log offset cause) e = cc
     never (ending.Device log) e = cc
     never ending.Memory e = cc
-done_but_traced p r stands marks after (inr (o, end)) front (inl memory) =
+done_but_traced p r stands marks after (inr (head, o, within, end)) front (inl memory) =
     subst (λ (t : Status). IsAnswerOf p r t) (sym memory) (inr (o, end.0.run, stands o none_failed end.0.run, inr (end.1, end.2), front))
-done_but_traced p r stands marks after (inr (o, end)) front (inr fault) =
+done_but_traced p r stands marks after (inr (head, o, within, end)) front (inr fault) =
     subst (λ (t : Status). IsAnswerOf p r t) (sym fault.0) (fault.1, (o, end.0.run, stands o none_failed end.0.run, ((end.1, all_replied r stands marks o none_failed end.0.run end.1), end.2), front))
 
 is_done : (s : Status) → (s ≡ status.Done) ⊎ (s ≢ status.Done)
@@ -144,18 +153,21 @@ answered p r stands marks before after nothing run (inr (front, other, done)) = 
 
 -- a log on which a run begins is not refused, and where none fails no log ends the run
 begun_not_of_logs : (p : Printing) (r : RunUse) (records : List (List Record)) (first : Opening) → MayOpen r.work.logs r.work.states r.devices_before r.devices_after records first
-    → (o : Opening) (s : Status) → IsRunEnd (RunLeft r o) (printed_of p r o (meant r.kept)) s → ¬ IsOfLogs s
-begun_not_of_logs p r records first may o status.Done end of = of
-begun_not_of_logs p r records first may o (status.Usage place) end of = of
-begun_not_of_logs p r records first may o (status.Input line cause) end of = of
-begun_not_of_logs p r records first may o (status.Logs log offset cause) end of = end
-begun_not_of_logs p r records first may o status.Memory end of = of
-begun_not_of_logs p r records first may o status.ReadFault end of = of
-begun_not_of_logs p r records first may o (status.LogFault log) end of = let x = rose_there r o r.schedule log end.0 in may.quiet log x.0 x.1
-begun_not_of_logs p r records first may o status.OutFault end of = of
-begun_not_of_logs p r records first may o status.TraceFault end of = of
-begun_not_of_logs p r records first may o (status.Audit fault) end of = of
-begun_not_of_logs p r records first may o (status.Compact logs) end of = of
+    → (head : ℕ) (o : Opening) → head + r.work.logs ≤ 4 → (s : Status) → IsRunEnd (RunLeft r head o) head (printed_of p r o (meant r.kept)) s → ¬ IsOfLogs s
+begun_not_of_logs p r records first may head o within status.Done end of = of
+begun_not_of_logs p r records first may head o within (status.Usage place) end of = of
+begun_not_of_logs p r records first may head o within (status.Input line cause) end of = of
+begun_not_of_logs p r records first may head o within (status.Logs log offset cause) end of = end
+begun_not_of_logs p r records first may head o within status.Memory end of = of
+begun_not_of_logs p r records first may head o within status.ReadFault end of = of
+begun_not_of_logs p r records first may head o within (status.LogFault device) end of =
+    let x = end.0 in
+    let is : device ≡ head + x.0 = x.1 in
+    let there = rose_there r head o device x in may.quiet device (omega (arith, is, there.0, within)) there.1
+begun_not_of_logs p r records first may head o within status.OutFault end of = of
+begun_not_of_logs p r records first may head o within status.TraceFault end of = of
+begun_not_of_logs p r records first may head o within (status.Audit fault) end of = of
+begun_not_of_logs p r records first may head o within (status.Compact logs) end of = of
 
 -- nor does a run that does not begin for want of memory
 unbegun_not_of_logs : (why : LogsNo) (s : Status) → s ≡ logs_status why → why ≡ ending.Memory → ¬ IsOfLogs s
@@ -165,7 +177,7 @@ unbegun_not_of_logs why s is memory of =
 untraced_not_of_logs : (p : Printing) (r : RunUse) (records : List (List Record)) (first : Opening) → MayOpen r.work.logs r.work.states r.devices_before r.devices_after records first
     → (s : Status) → IsUntraced p r s → ¬ IsOfLogs s
 untraced_not_of_logs p r records first may s (inl (why, none, is)) = unbegun_not_of_logs why s is (none.none.complete records first may)
-untraced_not_of_logs p r records first may s (inr (o, end)) = begun_not_of_logs p r records first may o s end
+untraced_not_of_logs p r records first may s (inr (head, o, within, end)) = begun_not_of_logs p r records first may head o within s end
 
 -- nor does the trace
 traced_not_of_logs : (trace : Writing) (kept : List Event) (before after : Status) → IsTraced trace kept before after → ¬ IsOfLogs before → ¬ IsOfLogs after

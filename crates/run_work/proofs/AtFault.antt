@@ -1,5 +1,5 @@
 -- No call is made behind one that failed: what a host writes, what is printed behind the replies, and the trace.
-use Rattle.std.proofs.Common.{◌≡◌, ◌≢◌, ℕ, Bool, true, inl, inr, List, Result, Ok, Err, refl, sym, ◌∙◌, ap, subst}
+use Rattle.std.proofs.Common.{◌≡◌, ◌≢◌, ℕ, Bool, true, inl, inr, List, Option, Some, None, Result, Ok, Err, refl, sym, ◌∙◌, ap, subst}
 use Rattle.std.proofs.lemmas.Bool.{cases_Bool, true≢false}
 use Rattle.snap_core.specs.aml_slice.Controls.{Rest}
 use Rattle.snap_core.specs.core_events.declared.events.Event.{Event}
@@ -12,11 +12,12 @@ use Rattle.solo_host.specs.run_effects.declared.stops.Stop.TheVariants as stop
 use Rattle.run_recovery.specs.Runs.{machine_of, meant}
 use Rattle.run_recovery.specs.Schedules.{Schedule}
 use Rattle.run_work.proofs.Ending.{StopsAtFault}
-use Rattle.run_work.specs.Hosts.{StopsSo, HasHosted, HasStood}
+use Rattle.run_work.specs.Hosts.{IsCoreOf, StopsSo, HasHosted, HasStood}
 use Rattle.run_work.specs.Runs.{Printing, reporting, summing, OutStoodOf}
-use Rattle.run_work.specs.Untraced.{IsEnding, IsTraced, IsCallEnd}
+use Rattle.run_work.specs.Untraced.{IsEnding, IsTraced, IsCallEnd, by_device}
 use Rattle.run_work.specs.Writings.{Writing}
 use Rattle.run_work.specs.declared.hosts.Hosted.{Hosted}
+use Rattle.snap_core.specs.Cores.{CoreState}
 use Rattle.snap_outside.proofs.AtFault.{calls_join}
 use Rattle.snap_outside.specs.Causes.{EndsAtFault}
 use Rattle.snap_outside.specs.declared.sinks.Sink.{Ghosts}
@@ -38,6 +39,19 @@ silent_so reporting failed stop.Quiet P log out so is = absurd (true≢false (sy
 silent_so reporting failed (stop.LogFault l) P log out so is = log is l refl
 silent_so reporting failed stop.OutFault P log out so is = out refl
 silent_so reporting failed stop.Memory P log out so is = absurd (true≢false (sym is ∙ so))
+
+-- it stopped so too where a log is named by its device
+pub stops_on : (p : Printing) (failed : Bool) (head : ℕ) (by : Stop) → StopsSo p failed by → StopsSo p failed (by_device head by)
+stops_on summing failed head by so = so
+stops_on reporting failed head stop.Quiet so = so
+stops_on reporting failed head (stop.LogFault log) so = so
+stops_on reporting failed head stop.OutFault so = so
+stops_on reporting failed head stop.Memory so = so
+
+-- and the core is the same
+pub core_on : (m : Fixed Rest) (es : List machine.Event) (head : ℕ) (by named : Stop) (core : Option CoreState) → named ≡ by_device head by → IsCoreOf m es by core → IsCoreOf m es named core
+core_on m es head by named None is none = is ∙ ap (λ (x : Stop). by_device head x) none
+core_on m es head by named (Some core) is there = there
 
 -- ---- the trace
 
@@ -80,10 +94,10 @@ module _
     call_once (Ok h) is end silent host behind = elim (cases_Bool h.failed) [
       | inl failed ↦
           let same : last ≡ then = silent is.made.stops failed in
-          let so : StopsSo p true h.stop = subst (λ (x : Bool). StopsSo p x h.stop) failed is.made.stops in
+          let so : StopsSo p true (by_device h.head h.stop) = stops_on p true h.head h.stop (subst (λ (x : Bool). StopsSo p x h.stop) failed is.made.stops) in
           let ending = end.untraced.ending (machine_of w is.opening) is.made.core in
           record {
-            quiet = λ stood. absurd (not_stood p (machine_of w is.opening) (meant h.kept.items) count h.stop out end.before so ending (traced_stood p trace events end.before s end.traced stood));
+            quiet = λ stood. absurd (not_stood p (machine_of w is.opening) (meant h.kept.items) count (by_device h.head h.stop) out end.before so ending (traced_stood p trace events end.before s end.traced stood));
             none_late = λ none. ap tells.late same ∙ host.none_late none;
           }
       | inr stood ↦ calls_join (tells.faults first) (tells.late first) (tells.faults then) (tells.late then) (tells.faults last) (tells.late last) stood host behind

@@ -1,5 +1,5 @@
 -- How a run ends, from how a host ended and what is printed then.
-use Rattle.std.proofs.Common.{◌≡◌, ◌⊎◌, inl, inr, ℕ, ◌≤◌, List, [], ◌++◌, flat_map, length, refl, sym, ◌∙◌, subst, arith, Bool, true, false, Option, Result, Ok, Err}
+use Rattle.std.proofs.Common.{◌≡◌, ◌⊎◌, inl, inr, ℕ, ◌+◌, ◌≤◌, List, [], ◌++◌, flat_map, length, refl, sym, ◌∙◌, subst, arith, Bool, true, false, Option, Result, Ok, Err}
 use Rattle.std.specs.Prelude.{IfOk}
 use Rattle.std.proofs.KnownBytes.{Appends-trans, Appends-kept}
 use Rattle.snap_core.specs.core_events.declared.events.Event.{Event}
@@ -13,7 +13,7 @@ use Rattle.run_recovery.specs.Schedules.{Schedule, seeded, free}
 use Rattle.run_work.proofs.RunDevices.{rose_earlier}
 use Rattle.run_work.specs.Hosts.{WasRunOnDevices, IsHostEnd, PrintsStopped, PrintsUnlessFailed, StopsSo, IsHosted, HasHosted}
 use Rattle.run_work.specs.Runs.{Printing, reporting, summing, replies_by, ending_by, unsure_by, RunUse, PrintsNext, PrintsFailed, PrintsUnsure, TellsUnsure, as_printed}
-use Rattle.run_work.specs.Untraced.{IsEnding, IsRunEnd, IsToldUnbegun, IsUntraced, IsEndOf, EndsUntraced}
+use Rattle.run_work.specs.Untraced.{IsEnding, IsRunEnd, IsToldUnbegun, IsUntraced, IsEndOf, EndsUntraced, by_device}
 use Rattle.run_work.specs.declared.hosts.Hosted.{Hosted}
 use Rattle.run_work.specs.Writings.{Writing, WritesNothing, IsSilent, Writes, WritesFront, WritesBehind, WritesLines}
 use Rattle.run_opening.specs.snap_recover.declared.openings.Opening.{Opening}
@@ -69,9 +69,9 @@ tells : (p : Printing) (w : Work) (schedule : Schedule) (o : Opening) (es : List
 tells p w schedule o es a b by true whole silent log is = inr (silent refl)
 tells p w schedule o es a b by false whole silent log is = inl (whole refl)
 
-module _ (p : Printing) (Left : (ℕ → Bool) → Type 0) (w : Work) (o : Opening) (es : List machine.Event) where
+module _ (p : Printing) (Left : (ℕ → Bool) → Type 0) (head : ℕ) (w : Work) (o : Opening) (es : List machine.Event) where
   abbrev End : Schedule → Writing → Status → Type 0
-  End schedule out s = IsRunEnd Left (as_printed p w schedule o es out) s
+  End schedule out s = IsRunEnd Left head (as_printed p w schedule o es out) s
 
   unsure : (schedule : Schedule) (log : ℕ) (a b : Writing) → GoesOn a b → a.faults_before ≤ a.faults_after → Writes a (replies_by p (machine_of w o) es) → TellsUnsure p log es (length w.txs) [] b
       → PrintsUnsure log (as_printed p w schedule o es (joined a b))
@@ -101,10 +101,10 @@ module _ (p : Printing) (Left : (ℕ → Bool) → Type 0) (w : Work) (o : Openi
       )
 
   ended : (schedule : Schedule) (a b : Writing) (why : Stop) (s : Status) → GoesOn a b → b.faults_before ≤ b.faults_after → IsHostEnd Left (as_printed p w schedule o es a) why
-      → MayTell p w o es a b why → IsEnding p (machine_of w o) es (length w.txs) why b s → End schedule (joined a b) s
+      → MayTell p w o es a b why → IsEnding p (machine_of w o) es (length w.txs) (by_device head why) b s → End schedule (joined a b) s
   ended schedule a b stop.Quiet s on later h may ending = ended_quiet schedule a b s on later h ending
   ended schedule a b (stop.LogFault l) s on later h may ending =
-      subst (λ (t : Status). End schedule (joined a b) t) (sym ending.0) (h.why, told schedule l a b on h.later later h.printed (may l refl) ending.1)
+      subst (λ (t : Status). End schedule (joined a b) t) (sym ending.0) ((l, refl, h.why), told schedule (head + l) a b on h.later later h.printed (may l refl) ending.1)
   ended schedule a b stop.OutFault s on later h may ending =
       subst (λ (t : Status). End schedule (joined a b) t) (sym ending.0) (
         h.why.0,
@@ -137,9 +137,11 @@ module _ (p : Printing) (w : Work) (schedule : Schedule) (before after : List De
       let o = is.opening in
       let es = meant h.kept.items in
       subst (λ (kept : List Event). IsUntraced p (RunOf kept) s) (sym end.same) (inr (
+        h.head,
         o,
-        ended p (WasRunOnDevices w schedule o es before after) w o es schedule a b h.stop s on end.later is.made.ends (tells p w schedule o es a b h.stop h.failed is.made.whole (silent is.made.stops))
-            (end.ending (machine_of w o) is.made.core),
+        is.within,
+        ended p (WasRunOnDevices w schedule h.head o es before after) h.head w o es schedule a b h.stop s on end.later is.made.ends
+            (tells p w schedule o es a b h.stop h.failed is.made.whole (silent is.made.stops)) (end.ending (machine_of w o) is.made.core),
       ))
 
   pub untraced_of : (ran : Result Hosted LogsNo) (events : List Event) (s : Status) → HasHosted p w schedule before after a ran → EndsUntraced p ran (length w.txs) events b s

@@ -1,13 +1,13 @@
 -- What a host promises of what it took, in the words of a run.
-use Rattle.std.proofs.Common.{◌≡◌, ◌≢◌, ℕ, zero, suc, ◌<◌, ◌≤◌, Bool, true, false, List, [], ◌∷◌, length, append-nil, refl, sym, ◌∙◌, subst, arith, Option, Some, None, inl, Result, Ok, Err}
-use Rattle.std.proofs.lemmas.Bool.{eqb-true, true≢false}
+use Rattle.std.proofs.Common.{◌≡◌, ◌≢◌, ℕ, zero, suc, ◌+◌, ◌<◌, ◌≤◌, Bool, true, false, List, [], ◌∷◌, length, append-nil, refl, sym, ◌∙◌, subst, arith, Option, Some, None, inl, Result, Ok, Err}
+use Rattle.std.proofs.lemmas.Bool.{eq-eqb, eqb-true, true≢false}
 use Rattle.std.proofs.KnownBytes.{Appends-nil, Appends-kept}
 use Rattle.std.specs.Prelude.{IfSome, IfOk}
 use Rattle.std.specs.List.{AllByRecursion}
 use Rattle.snap_core.specs.aml_slice.Controls.{Rest}
 use Rattle.run_opening.specs.gate_log.State.{LogState}
 use Rattle.snap_core.specs.core_events.declared.events.Event.{Event}
-use Rattle.run_opening.specs.log_opening.Devices.{Device}
+use Rattle.run_opening.specs.log_opening.Devices.{Device, device_at}
 use Rattle.run_opening.specs.log_opening.declared.refusals.LogsNo.{LogsNo}
 use Rattle.protocol.specs.Events as machine
 use Rattle.protocol.specs.Fixed.{Fixed}
@@ -187,14 +187,15 @@ made_as P Q then p w schedule o replies h is = record { ends = left_as P Q then 
 -- on all devices, where the replies went where nothing fails
 pub unheard_host : (w : Work) (schedule : Schedule) (before after : List Device) (replies out : Writing) (h : Hosted) → ¬ Rose replies.faults_before replies.faults_after → IsSilent out
     → IsHosted reporting w schedule before after replies h
-    → IsHosted summing w schedule before after out (record { core = h.core; stop = h.stop; kept = h.kept; failed = false })
+    → IsHosted summing w schedule before after out (record { core = h.core; stop = h.stop; kept = h.kept; failed = false; head = h.head })
 unheard_host w schedule before after replies out h quiet silent is =
     let es = meant h.kept.items in
     let nothing : Writes out [] = subst (λ (t : Option (List ℕ)). Writes (record out { taken_after = t }) []) (sym silent.0) (Appends-nil out.taken_before) in
     record {
       opening = is.opening;
+      within = is.within;
       made = record {
-        ends = unheard (WasRunOnDevices w schedule is.opening es before after) w schedule is.opening es replies out h.stop quiet nothing (omega (arith, silent.1)) is.made.ends;
+        ends = unheard (WasRunOnDevices w schedule h.head is.opening es before after) w schedule is.opening es replies out h.stop quiet nothing (omega (arith, silent.1)) is.made.ends;
         core = is.made.core;
         whole = λ _. nothing;
         stops = refl;
@@ -210,3 +211,21 @@ pub core_of : (p : Printing) (w : Work) (schedule : Schedule) (before after : Li
     → IfOk ran (λ h. IfSome h.core (λ c. IsAt c (meant h.kept.items)))
 core_of p w schedule before after replies (Ok h) is = core_at (machine_of w is.opening) (meant h.kept.items) h.stop h.core is.made.core
 core_of p w schedule before after replies (Err why) is = tt
+
+-- ---- a log that failed
+
+-- it is one of the work's, and its device's count rose
+pub failed_there : (w : Work) (schedule : Schedule) (head : ℕ) (o : Opening) (es : List machine.Event) (before after : List Device) (by : Schedule) (log : ℕ)
+    → LeftFailed (WasRunOnDevices w schedule head o es before after) w by o es log → (log < w.logs) × Rose (device_at before (head + log)).faults (device_at after (head + log)).faults
+failed_there w schedule head o es before after (seeded seed) log left = left.0.rose log (eq-eqb log log refl)
+failed_there w schedule head o es before after free log left = left.2.rose log left.1.is
+
+-- so its device is one of four
+pub named_of : (p : Printing) (w : Work) (schedule : Schedule) (before after : List Device) (replies : Writing) (ran : Result Hosted LogsNo) → HasHosted p w schedule before after replies ran
+    → IfOk ran (λ h. (log : ℕ) → h.stop ≡ stop.LogFault log → h.head + log < 4)
+named_of p w schedule before after replies (Ok h) is = λ log e.
+    let es = meant h.kept.items in
+    let why : IsStopOf (WasRunOnDevices w schedule h.head is.opening es before after) (as_printed p w schedule is.opening es replies) (stop.LogFault log) =
+    subst (λ (by : Stop). IsStopOf (WasRunOnDevices w schedule h.head is.opening es before after) (as_printed p w schedule is.opening es replies) by) e is.made.ends.why in
+    let there = failed_there w schedule h.head is.opening es before after schedule log why in omega (arith, there.0, is.within)
+named_of p w schedule before after replies (Err why) is = tt

@@ -1,6 +1,6 @@
 -- Only private contracts cite this; the answers are Runs.antt.
 -- What a host makes of a work, wherever its replies go: on open logs, and on all devices.
-use Rattle.std.specs.Prelude.{◌≡◌, ℕ, ◌<◌, ◌≤◌, ◌⊎◌, Bool, true, false, Option, None, Some, Result, Ok, Err, List, length, ⊤}
+use Rattle.std.specs.Prelude.{◌≡◌, ℕ, ◌+◌, ◌<◌, ◌≤◌, ◌⊎◌, Bool, true, false, Option, None, Some, Result, Ok, Err, List, length, ⊤}
 use Rattle.snap_core.specs.aml_slice.Controls.{Rest}
 use Rattle.run_opening.specs.gate_log.State.{LogState}
 use Rattle.run_opening.specs.log_opening.declared.refusals.LogsNo.{LogsNo}
@@ -36,10 +36,11 @@ pub record HasDriven (w : Work) (schedule : Schedule) (o : Opening) (es : List m
   pub each : (l : ℕ) → l < length old → IsDriven (log_at old l) (log_at new l) (groups_of (machine_of w o) l es) (tried_on failed l (group_behind (machine_of w o) l es))
   pub rose : (l : ℕ) → failed l ≡ true → (l < length old) × Rose (log_at old l).faults (log_at new l).faults
 
--- A run of these events was made on the devices; each that failed tells it.
-pub record WasRunOnDevices (w : Work) (schedule : Schedule) (o : Opening) (es : List machine.Event) (before after : List Device) (failed : ℕ → Bool) : Type 0 where
+-- A run of these events was made on the devices, its logs on those from the head on; each that failed tells it.
+pub record WasRunOnDevices (w : Work) (schedule : Schedule) (head : ℕ) (o : Opening) (es : List machine.Event) (before after : List Device) (failed : ℕ → Bool) : Type 0 where
   pub run : HasRunWork w schedule o es failed before after
-  pub rose : (l : ℕ) → failed l ≡ true → (l < w.logs) × Rose (device_at before l).faults (device_at after l).faults
+  pub first : run.devices.head ≡ head
+  pub rose : (l : ℕ) → failed l ≡ true → (l < w.logs) × Rose (device_at before (head + l)).faults (device_at after (head + l)).faults
 
 -- ---- how it ends
 
@@ -107,13 +108,14 @@ pub record IsMadeByHost (p : Printing) (Left : (ℕ → Bool) → Type 0) (w : W
 abbrev pub IsHostedOn : Printing → Work → Schedule → Opening → List LogState → List LogState → Writing → Hosted → Type 0
 IsHostedOn p w schedule o old new replies h = IsMadeByHost p (HasDriven w schedule o (meant h.kept.items) old new) w schedule o replies h
 
--- on all devices
+-- on all devices, which are four
 pub record IsHosted (p : Printing) (w : Work) (schedule : Schedule) (before after : List Device) (replies : Writing) (h : Hosted) : Type 0 where
   pub opening : Opening
-  pub made : IsMadeByHost p (WasRunOnDevices w schedule opening (meant h.kept.items) before after) w schedule opening replies h
+  pub within : h.head + w.logs ≤ 4
+  pub made : IsMadeByHost p (WasRunOnDevices w schedule h.head opening (meant h.kept.items) before after) w schedule opening replies h
 
--- No run began, for this reason, and a crash at any moment loses no record. Where the logs hold records on which a run begins,
--- and none fails, it is want of memory.
+-- No run began, for this reason, and a crash at any moment loses no record of the logs in use. Where these hold records on which a run
+-- begins, and none fails, it is want of memory.
 pub record IsWithoutRun (w : Work) (before after : List Device) (why : LogsNo) : Type 0 where
   pub none : IsNoRun w.logs w.states before after why
   pub safe : AreSafe w.logs w.states before after

@@ -1,5 +1,5 @@
 -- What a run of a work prints, and the answers of the commands that run one.
-use Rattle.std.specs.Prelude.{◌≡◌, ◌≢◌, ℕ, ◌<◌, ◌⊎◌, Bool, true, List, [], ◌++◌, length, Contains, ⊤}
+use Rattle.std.specs.Prelude.{◌≡◌, ◌≢◌, ℕ, ◌+◌, ◌<◌, ◌⊎◌, Bool, true, List, [], ◌++◌, length, Contains, ⊤}
 use Rattle.snap_core.specs.aml_slice.Controls.{Rest}
 use Rattle.snap_core.specs.core_events.declared.events.Event.{Event}
 use Rattle.run_opening.specs.log_opening.declared.refusals.LogsNo.{LogsNo}
@@ -131,32 +131,38 @@ pub record RunUse : Type 0 where
 abbrev pub printed_of : Printing → RunUse → Opening → List machine.Event → Printed
 printed_of p r o es = as_printed p r.work r.schedule o es r.out
 
--- no run began, for this reason; nothing was traced; and a crash at any moment of the call loses no record
+-- no run began, for this reason; nothing was traced; and a crash at any moment of the call loses no record of the logs in use
 abbrev pub HasNotBegun : RunUse → LogsNo → Type 0
 HasNotBegun r why =
     (r.kept ≡ []) × IsNoRun r.work.logs r.work.states r.devices_before r.devices_after why × WritesNothing r.trace
     × AreSafe r.work.logs r.work.states r.devices_before r.devices_after
 
 -- A run began, and what the laws of the machine say of it holds: of its committed transactions, of what they are told, and of
--- what a crash leaves at any moment of it. P holds of what it began with and of its events. Its trace is written, or some lines
--- of it that come first.
-abbrev pub HasBegun : RunUse → (ℕ → Bool) → (Opening → List machine.Event → Type 0) → Type 0
-HasBegun r failed P =
+-- what a crash leaves at any moment of it. P holds of the device of its log 0, of what it began with and of its events. Its trace is
+-- written, or some lines of it that come first.
+abbrev pub HasBegunOn : RunUse → (ℕ → Bool) → (ℕ → Opening → List machine.Event → Type 0) → Type 0
+HasBegunOn r failed P =
     (o : Opening) × (run : HasRunWork r.work r.schedule o (meant r.kept) failed r.devices_before r.devices_after) × RunStands (the_run run)
-    × P o (meant r.kept) × WritesLines traced_line r.trace [] r.kept
+    × P run.devices.head o (meant r.kept) × WritesLines traced_line r.trace [] r.kept
+
+-- the same where it does not matter which devices hold its logs
+abbrev pub HasBegun : RunUse → (ℕ → Bool) → (Opening → List machine.Event → Type 0) → Type 0
+HasBegun r failed P = HasBegunOn r failed (λ head o es. P o es)
 
 abbrev pub LogRose : RunUse → ℕ → Type 0
 LogRose r log = Rose (device_at r.devices_before log).faults (device_at r.devices_after log).faults
 
--- each log that failed is one of the work's, its count rose, and its Sync could come
-abbrev pub EachFailed : RunUse → (ℕ → Bool) → Opening → List machine.Event → Type 0
-EachFailed r failed o es = (l : ℕ) → failed l ≡ true → (l < r.work.logs) × LogRose r l × GoesOnWith r.work free o es (machine.Sync l)
+-- each log that failed is one of the work's, its device's count rose, and its Sync could come
+abbrev pub EachFailed : RunUse → ℕ → (ℕ → Bool) → Opening → List machine.Event → Type 0
+EachFailed r head failed o es = (l : ℕ) → failed l ≡ true → (l < r.work.logs) × LogRose r (head + l) × GoesOnWith r.work free o es (machine.Sync l)
 
--- A run began, and ended since the device of this log failed. One thread stops there, at its next event, so no other log failed. With
--- several workers others may have failed too, and it is the least of them.
+-- A run began, and ended since this device failed, which holds log l: it is the l-th one from the head on. One thread stops there, at its
+-- next event, so no other log failed. With several workers others may have failed too, and it is the least of them.
 abbrev pub HasFailed : RunUse → Schedule → ℕ → (Opening → List machine.Event → Type 0) → Type 0
-HasFailed r (seeded seed) log P = HasBegun r (only_failed log) (λ o es. GoesOnWith r.work (seeded seed) o es (machine.Sync log) × P o es)
-HasFailed r free log P = (failed : ℕ → Bool) × IsLeastOf failed log × HasBegun r failed (λ o es. EachFailed r failed o es × P o es)
+HasFailed r (seeded seed) device P =
+    (l : ℕ) × HasBegunOn r (only_failed l) (λ head o es. (device ≡ head + l) × GoesOnWith r.work (seeded seed) o es (machine.Sync l) × P o es)
+HasFailed r free device P =
+    (failed : ℕ → Bool) × (l : ℕ) × IsLeastOf failed l × HasBegunOn r failed (λ head o es. (device ≡ head + l) × EachFailed r head failed o es × P o es)
 
 abbrev pub IsAnswerOf : Printing → RunUse → Status → Type 0
 IsAnswerOf p r status.Done = HasBegun r none_failed (λ o es. HasAnswered r.work o es × PrintsAll (printed_of p r o es)) × Writes r.trace (trace_of r.kept)

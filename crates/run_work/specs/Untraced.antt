@@ -1,6 +1,6 @@
 -- Only private contracts cite this; the answers are Runs.antt.
 -- How a run of a work ends before its trace is written, by how a host ended, and what its trace makes of that.
-use Rattle.std.specs.Prelude.{◌≡◌, ◌≢◌, ℕ, ◌≤◌, ◌⊎◌, Bool, Result, Ok, Err, List, [], length}
+use Rattle.std.specs.Prelude.{◌≡◌, ◌≢◌, ℕ, ◌+◌, ◌≤◌, ◌⊎◌, Bool, Result, Ok, Err, List, [], length}
 use Rattle.snap_core.specs.aml_slice.Controls.{Rest}
 use Rattle.snap_core.specs.core_events.declared.events.Event.{Event}
 use Rattle.run_opening.specs.log_opening.declared.refusals.LogsNo.{LogsNo}
@@ -25,7 +25,14 @@ use Rattle.solo_host.specs.run_effects.Driven.{none_failed}
 
 -- ---- behind a host
 
--- What is printed where a host ended so, and how the run ends then.
+-- why a host stopped, with a log that failed named by its device, where log 0 lies on the head
+abbrev pub by_device : ℕ → Stop → Stop
+by_device head stop.Quiet = stop.Quiet
+by_device head (stop.LogFault log) = stop.LogFault (head + log)
+by_device head stop.OutFault = stop.OutFault
+by_device head stop.Memory = stop.Memory
+
+-- What is printed where a host ended so, a log named by its device, and how the run ends then.
 abbrev pub IsEnding : Printing → Fixed Rest → List machine.Event → ℕ → Stop → Writing → Status → Type 0
 IsEnding p m es count stop.Quiet out s =
     ((s ≡ status.Done) × Writes out (ending_by p m es))
@@ -36,18 +43,23 @@ IsEnding p m es count stop.Memory out s = (s ≡ status.Memory) × WritesNothing
 
 -- ---- how a run ended, where Left tells what it left on its logs, by those that failed
 
-abbrev pub IsRunEnd : ((ℕ → Bool) → Type 0) → Printed → Status → Type 0
-IsRunEnd Left d status.Done = Left none_failed × HasEnded d.work d.opening d.events × PrintsAll d
-IsRunEnd Left d (status.Usage place) = ⊥
-IsRunEnd Left d (status.Input line cause) = ⊥
-IsRunEnd Left d (status.Logs log offset cause) = ⊥
-IsRunEnd Left d status.Memory = Left none_failed × PrintsWhole d
-IsRunEnd Left d status.ReadFault = ⊥
-IsRunEnd Left d (status.LogFault log) = LeftFailed Left d.work d.schedule d.opening d.events log × PrintsFailed log d
-IsRunEnd Left d status.OutFault = Left none_failed × Rose d.out.faults_before d.out.faults_after × (PrintsNext d ⊎ PrintsEnding d)
-IsRunEnd Left d status.TraceFault = ⊥
-IsRunEnd Left d (status.Audit fault) = ⊥
-IsRunEnd Left d (status.Compact logs) = ⊥
+-- this device failed, which holds log l: it is the l-th one from the head on
+abbrev pub HasLogFault : ((ℕ → Bool) → Type 0) → ℕ → Printed → ℕ → Type 0
+HasLogFault Left head d device = (l : ℕ) × (device ≡ head + l) × LeftFailed Left d.work d.schedule d.opening d.events l
+
+-- its log 0 lies on the head
+abbrev pub IsRunEnd : ((ℕ → Bool) → Type 0) → ℕ → Printed → Status → Type 0
+IsRunEnd Left head d status.Done = Left none_failed × HasEnded d.work d.opening d.events × PrintsAll d
+IsRunEnd Left head d (status.Usage place) = ⊥
+IsRunEnd Left head d (status.Input line cause) = ⊥
+IsRunEnd Left head d (status.Logs log offset cause) = ⊥
+IsRunEnd Left head d status.Memory = Left none_failed × PrintsWhole d
+IsRunEnd Left head d status.ReadFault = ⊥
+IsRunEnd Left head d (status.LogFault device) = HasLogFault Left head d device × PrintsFailed device d
+IsRunEnd Left head d status.OutFault = Left none_failed × Rose d.out.faults_before d.out.faults_after × (PrintsNext d ⊎ PrintsEnding d)
+IsRunEnd Left head d status.TraceFault = ⊥
+IsRunEnd Left head d (status.Audit fault) = ⊥
+IsRunEnd Left head d (status.Compact logs) = ⊥
 
 -- ---- on all devices
 
@@ -63,15 +75,15 @@ pub record IsNoBeginning (p : Printing) (r : RunUse) (why : LogsNo) : Type 0 whe
   pub none : IsWithoutRun r.work r.devices_before r.devices_after why
   pub told : IsToldUnbegun p (length r.work.txs) why r.out
 
--- what a run left on its logs
-abbrev pub RunLeft : RunUse → Opening → (ℕ → Bool) → Type 0
-RunLeft r o failed = WasRunOnDevices r.work r.schedule o (meant r.kept) r.devices_before r.devices_after failed
+-- what a run left on its logs, which lie on the devices from the head on
+abbrev pub RunLeft : RunUse → ℕ → Opening → (ℕ → Bool) → Type 0
+RunLeft r head o failed = WasRunOnDevices r.work r.schedule head o (meant r.kept) r.devices_before r.devices_after failed
 
 -- How a run of a work ended before its trace is written: none began, or one began and ended.
 abbrev pub IsUntraced : Printing → RunUse → Status → Type 0
 IsUntraced p r s =
     ((why : LogsNo) × IsNoBeginning p r why × (s ≡ logs_status why))
-    ⊎ ((o : Opening) × IsRunEnd (RunLeft r o) (printed_of p r o (meant r.kept)) s)
+    ⊎ ((head : ℕ) × (o : Opening) × (head + r.work.logs ≤ 4) × IsRunEnd (RunLeft r head o) head (printed_of p r o (meant r.kept)) s)
 
 -- ---- the trace
 
@@ -88,7 +100,7 @@ IsTraced trace kept before after =
 -- How the run that a host made so, of so many transactions, ends before its trace.
 pub record IsEndOf (p : Printing) (h : Hosted) (count : ℕ) (events : List Event) (out : Writing) (s : Status) : Type 0 where
   pub same : events ≡ h.kept.items
-  pub ending : (m : Fixed Rest) → IsCoreOf m (meant h.kept.items) h.stop h.core → IsEnding p m (meant h.kept.items) count h.stop out s
+  pub ending : (m : Fixed Rest) → IsCoreOf m (meant h.kept.items) h.stop h.core → IsEnding p m (meant h.kept.items) count (by_device h.head h.stop) out s
   pub later : out.faults_before ≤ out.faults_after
 
 -- how a call ends before its trace, where a run may not have begun

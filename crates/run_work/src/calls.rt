@@ -7,7 +7,7 @@ use std::marker::Model;
 /// What a call is handed, and what it gives back. A contract sees the devices and the trace themselves, and what the devices, the
 /// output and the trace tell.
 pub struct Call<D: LogDev, O: Sink, T: Sink> {
-    /// The devices on which the logs lie, log 0 on the first. A run asks for four, whatever the number of its logs.
+    /// The devices on which the logs lie. A run asks for four, whatever the number of its logs.
     pub logs: Vec<D>,
     /// The sink that gets what is printed.
     pub out: O,

@@ -1,5 +1,5 @@
 //! How a call ends: what is printed behind the replies, the trace, and the status.
-ghost use Rattle.std.specs.Prelude.{◌≡◌, ◌≢◌, ◌≤◌, ℕ, [], map, true, IfSome, IfOk, IsErrOf, OnOk, OnErr};
+ghost use Rattle.std.specs.Prelude.{◌≡◌, ◌≢◌, ◌+◌, ◌<◌, ◌≤◌, ℕ, [], map, true, IfSome, IfOk, IsErrOf, OnOk, OnErr};
 ghost use Rattle.snap_core.specs.aml_slice.Controls.{Rest};
 ghost use Rattle.snap_core.specs.core_events.Meant.{event_meant};
 ghost use Rattle.protocol.specs.Fixed.{Fixed};
@@ -7,7 +7,7 @@ ghost use Rattle.run_work.specs.Hosts.{IsCoreOf, StopsSo};
 ghost use Rattle.run_work.specs.Printings.{printing_of};
 ghost use Rattle.run_work.specs.Runs.{summing, ending_by, TellsUnsure, OutStoodOf};
 ghost use Rattle.run_work.specs.Statuses.{logs_status};
-ghost use Rattle.run_work.specs.Untraced.{IsEnding, EndsUntraced, IsCallEnd, IsToldUnbegun, IsTraced};
+ghost use Rattle.run_work.specs.Untraced.{IsEnding, EndsUntraced, IsCallEnd, IsToldUnbegun, IsTraced, by_device};
 ghost use Rattle.run_work.specs.Writings.{Writes, WritesFront, writing_of};
 ghost use Rattle.snap_core.specs.Cores.{IsAt};
 ghost use Rattle.snap_core.specs.snap_hand.Tables.{fixed_of};
@@ -33,7 +33,8 @@ pub(crate) fn end_run<O: Sink, T: Sink>(
     out: &mut O,
     trace: &mut T,
 ) -> (Vec<Event>, Status)
-    requires { IfOk ran (λ h. IfSome h.core (λ c. IsAt c (map event_meant h.kept.items))) }
+    requires core { IfOk ran (λ h. IfSome h.core (λ c. IsAt c (map event_meant h.kept.items))) }
+    requires named { IfOk ran (λ h. (log : ℕ) → h.stop ≡ Stop.LogFault log → h.head + log < 4) }
     ensures ended { IsCallEnd (printing_of told) ran count result.0.items (writing_of O.Sink out.old out.new) (writing_of T.Sink trace.old trace.new) result.1 }
     ensures none { result.0.items ≡ [] → trace.new ≡ trace.old }
     // Where the output failed at the line of a reply it gets no call.
@@ -55,7 +56,8 @@ fn end_untraced<O: Sink>(
     ran: Result<Hosted, LogsNo>,
     out: &mut O,
 ) -> (Vec<Event>, Status)
-    requires { IfOk ran (λ h. IfSome h.core (λ c. IsAt c (map event_meant h.kept.items))) }
+    requires core { IfOk ran (λ h. IfSome h.core (λ c. IsAt c (map event_meant h.kept.items))) }
+    requires named { IfOk ran (λ h. (log : ℕ) → h.stop ≡ Stop.LogFault log → h.head + log < 4) }
     ensures ended { EndsUntraced (printing_of told) ran count result.0.items (writing_of O.Sink out.old out.new) result.1 }
     ensures silent { IfOk ran (λ h. StopsSo (printing_of told) h.failed h.stop → h.failed ≡ true → out.new ≡ out.old) }
     ensures once { EndsAtFault (OutStoodOf (printing_of told) result.1) (O.faults out.old) (O.late out.old) (O.faults out.new) (O.late out.new) }
@@ -67,7 +69,9 @@ fn end_untraced<O: Sink>(
                 stop,
                 kept,
                 failed,
+                head,
             } = hosted;
+            let stop = on_device(stop, head);
             let status = end_hosted(alloc, told, core, stop, failed, kept.as_slice(), count, out);
             (kept, status)
         }
@@ -75,7 +79,21 @@ fn end_untraced<O: Sink>(
     }
 }
 
-/// Prints what comes behind the replies of a run that a host ended so. Where the output failed too, nothing comes behind.
+/// Why a host stopped, with a log that failed named by its device: log 0 lies on the head.
+fn on_device(stop: Stop, head: u8) -> Stop
+    requires { (log : ℕ) → stop ≡ Stop.LogFault log → head + log < 4 }
+    ensures { result ≡ by_device head stop }
+{
+    match stop {
+        Stop::Quiet => Stop::Quiet,
+        Stop::LogFault(log) => Stop::LogFault(head + log),
+        Stop::OutFault => Stop::OutFault,
+        Stop::Memory => Stop::Memory,
+    }
+}
+
+/// Prints what comes behind the replies of a run that a host ended so, a log that failed named by its device. Where the output failed
+/// too, nothing comes behind.
 fn end_hosted<O: Sink>(
     alloc: Global,
     told: Told,

@@ -18,7 +18,7 @@ ghost use Rattle.snap_work.specs.Works.{work_of};
 
 use crate::printings::Told;
 use crew_host::{CrewEnd, MOST_WORKERS, drive_crew};
-use run_opening::{FARTHEST_END, Log, LogsNo, Opening, close, open_run};
+use run_opening::{Begun, FARTHEST_END, Log, LogsNo, Opening, close, open_run};
 use snap_core::{Core, Event, Tables, works_are_texts};
 use snap_outside::{Gate, LogDev, NullSink, Sink};
 use snap_work::Work;
@@ -35,6 +35,8 @@ pub(crate) struct Hosted {
     pub kept: Vec<Event>,
     /// Whether the output failed at the line of a reply.
     pub failed: bool,
+    /// The device of log 0. Those of the other logs follow it.
+    pub head: u8,
 }
 
 /// What a host leaves: what it made of a work, or why no run began; and the devices and the output that it was handed.
@@ -51,8 +53,8 @@ struct OnLogs<D: LogDev, O> {
     out: O,
 }
 
-/// Opens the logs of a work, takes its events by the schedule of the seed, and closes the logs. They lie on the first of these
-/// devices; the others get no call. The replies are printed, or where the summary is asked for they go nowhere. An error tells
+/// Opens the logs of a work, takes its events by the schedule of the seed, and closes the logs. They lie on some of these
+/// devices, as the records on them tell. The replies are printed, or where the summary is asked for they go nowhere. An error tells
 /// why no run began.
 pub(crate) fn host_work<D: LogDev, O: Sink>(
     alloc: Global,
@@ -75,8 +77,8 @@ pub(crate) fn host_work<D: LogDev, O: Sink>(
     }
 }
 
-/// Opens the logs of a work, takes its events by the schedule of the seed, and closes the logs. They lie on the first of these
-/// devices; the others get no call. The replies are printed. An error tells why no run began.
+/// Opens the logs of a work, takes its events by the schedule of the seed, and closes the logs. They lie on some of these
+/// devices, as the records on them tell. The replies are printed. An error tells why no run began.
 fn host_solo<D: LogDev, O: Sink>(
     alloc: Global,
     work: Work,
@@ -93,9 +95,16 @@ fn host_solo<D: LogDev, O: Sink>(
 {
     let mut devices = devices;
     match open_run(alloc, &mut devices, work.logs, work.states.as_slice()) {
-        Ok((logs, opening)) => {
-            let OnLogs { hosted, logs, out } = host_on_logs(alloc, work, opening, seed, logs, out);
-            close(logs, &mut devices);
+        Ok(opened) => {
+            let Begun {
+                logs,
+                opening,
+                head,
+            } = opened;
+            let OnLogs { hosted, logs, out } = host_on_logs(
+                alloc, work, opening, head, seed, logs, out,
+            );
+            close(logs, &mut devices, head as usize);
             HostRan {
                 hosted: Ok(hosted),
                 devices,
@@ -110,12 +119,13 @@ fn host_solo<D: LogDev, O: Sink>(
     }
 }
 
-/// Takes the events of a work on its open logs, from the opening with which it begins, by the schedule of the seed. The replies are
-/// printed.
+/// Takes the events of a work on its open logs, from the opening with which it begins, by the schedule of the seed; log 0 lies on the
+/// head. The replies are printed.
 fn host_on_logs<D: LogDev, O: Sink>(
     alloc: Global,
     work: Work,
     opening: Opening,
+    head: u8,
     seed: u64,
     logs: Vec<Log<D>>,
     out: O,
@@ -129,10 +139,11 @@ fn host_on_logs<D: LogDev, O: Sink>(
     ensures hosted { IsHostedOn reporting (work_of work) (seeded seed) opening logs.items result.logs.items (writing_of O.Sink out result.out) result.hosted }
     ensures once { EndsAtFault (result.hosted.failed ≡ false) (O.faults out) (O.late out) (O.faults result.out) (O.late result.out) }
     ensures as_many { length result.logs.items ≡ length logs.items }
+    ensures head { result.hosted.head ≡ head }
 {
     works_are_texts();
     let Ok(mut core) = Core::open(alloc, Tables { work, opening }) else {
-        return without_core(alloc, logs, out);
+        return without_core(alloc, head, logs, out);
     };
     let mut logs = logs;
     let mut out = out;
@@ -144,6 +155,7 @@ fn host_on_logs<D: LogDev, O: Sink>(
             stop,
             kept,
             failed,
+            head,
         },
         logs,
         out,
@@ -152,11 +164,17 @@ fn host_on_logs<D: LogDev, O: Sink>(
 
 /// What a host leaves of open logs where there is no memory for a core: it has taken no event, and neither the logs nor the output
 /// got a call.
-fn without_core<D: LogDev, O: Sink>(alloc: Global, logs: Vec<Log<D>>, out: O) -> OnLogs<D, O>
+fn without_core<D: LogDev, O: Sink>(
+    alloc: Global,
+    head: u8,
+    logs: Vec<Log<D>>,
+    out: O,
+) -> OnLogs<D, O>
     ensures hosted { (w : works.Work) (schedule : Schedule) (o : begun.Opening) → AllByRecursion (λ l. l.shut ≡ false) logs.items
         → IsHostedOn reporting w schedule o logs.items result.logs.items (writing_of O.Sink out result.out) result.hosted }
     ensures once { EndsAtFault (result.hosted.failed ≡ false) (O.faults out) (O.late out) (O.faults result.out) (O.late result.out) }
     ensures as_many { length result.logs.items ≡ length logs.items }
+    ensures head { result.hosted.head ≡ head }
 {
     OnLogs {
         hosted: Hosted {
@@ -164,6 +182,7 @@ fn without_core<D: LogDev, O: Sink>(alloc: Global, logs: Vec<Log<D>>, out: O) ->
             stop: Stop::Memory,
             kept: Vec::new(alloc),
             failed: false,
+            head,
         },
         logs,
         out,
@@ -181,8 +200,8 @@ fn is_of_output(by: &Stop) -> bool
     }
 }
 
-/// Opens the logs of a work, lets so many workers take its events, and closes the logs. They lie on the first of these devices;
-/// the others get no call. The replies are printed. An error tells why no run began. Whether it returns is not promised.
+/// Opens the logs of a work, lets so many workers take its events, and closes the logs. They lie on some of these
+/// devices, as the records on them tell. The replies are printed. An error tells why no run began. Whether it returns is not promised.
 pub(crate) fn host_crew<
     R: Threads + Wait + Sync,
     D: LogDev + Drop + Send,
@@ -207,11 +226,16 @@ pub(crate) fn host_crew<
 {
     let mut devices = devices;
     match open_run(alloc, &mut devices, work.logs, work.states.as_slice()) {
-        Ok((logs, opening)) => {
+        Ok(opened) => {
+            let Begun {
+                logs,
+                opening,
+                head,
+            } = opened;
             let OnLogs { hosted, logs, out } = crew_on_logs(
-                rt, alloc, work, opening, workers, gate, logs, out,
+                rt, alloc, work, opening, head, workers, gate, logs, out,
             );
-            close(logs, &mut devices);
+            close(logs, &mut devices, head as usize);
             HostRan {
                 hosted: Ok(hosted),
                 devices,
@@ -226,7 +250,8 @@ pub(crate) fn host_crew<
     }
 }
 
-/// Lets so many workers take the events of a work on its open logs, from the opening with which it begins. The replies are printed.
+/// Lets so many workers take the events of a work on its open logs, from the opening with which it begins; log 0 lies on the
+/// head. The replies are printed.
 fn crew_on_logs<
     R: Threads + Wait + Sync,
     D: LogDev + Drop + Send,
@@ -237,6 +262,7 @@ fn crew_on_logs<
     alloc: Global,
     work: Work,
     opening: Opening,
+    head: u8,
     workers: usize,
     gate: &G,
     logs: Vec<Log<D>>,
@@ -252,10 +278,11 @@ fn crew_on_logs<
     ensures hosted { IsHostedOn reporting (work_of work) free opening logs.items result.logs.items (writing_of O.Sink out result.out) result.hosted }
     ensures once { EndsAtFault (result.hosted.failed ≡ false) (O.faults out) (O.late out) (O.faults result.out) (O.late result.out) }
     ensures as_many { length result.logs.items ≡ length logs.items }
+    ensures head { result.hosted.head ≡ head }
 {
     works_are_texts();
     let Ok(core) = Core::open(alloc, Tables { work, opening }) else {
-        return without_core(alloc, logs, out);
+        return without_core(alloc, head, logs, out);
     };
     let CrewEnd {
         core,
@@ -271,14 +298,15 @@ fn crew_on_logs<
             stop,
             kept,
             failed,
+            head,
         },
         logs,
         out,
     }
 }
 
-/// Opens the logs of a work, lets so many workers take its events, and closes the logs. They lie on the first of these devices;
-/// the others get no call. The replies go nowhere, and the output gets no call. An error tells why no run began. Whether it returns
+/// Opens the logs of a work, lets so many workers take its events, and closes the logs. They lie on some of these
+/// devices, as the records on them tell. The replies go nowhere, and the output gets no call. An error tells why no run began. Whether it returns
 /// is not promised.
 pub(crate) fn crew_unheard<
     R: Threads + Wait + Sync,
@@ -343,12 +371,14 @@ fn summed(hosted: Result<Hosted, LogsNo>) -> Result<Hosted, LogsNo>
                 stop,
                 kept,
                 failed: _failed,
+                head,
             } = hosted;
             Ok(Hosted {
                 core,
                 stop,
                 kept,
                 failed: false,
+                head,
             })
         }
         Err(no) => Err(no),

@@ -37,8 +37,8 @@ pub struct HasRun<D: LogDev, O: Sink, T: Sink> {
     pub call: Call<D, O, T>,
 }
 
-/// Runs a work on the machine, on one thread, by the schedule of the seed. Its logs lie on the first devices of the call, which are
-/// four; the others get no call. A report prints each reply as it comes, and at the end the actors and the end line; a summary prints
+/// Runs a work on the machine, on one thread, by the schedule of the seed. All four devices of the call are
+/// opened, and the records in front of them tell which hold its logs. A report prints each reply as it comes, and at the end the actors and the end line; a summary prints
 /// its line alone. At last a line of each event that was taken is written to the trace.
 ///
 /// The status is `Done`, or tells what stopped the call: `Logs`, a log is refused and no run began; `LogFault`, a log's device failed
@@ -89,11 +89,11 @@ pub fn run_work<D: LogDev, O: Sink, T: Sink>(
 }
 
 /// Runs a work on the machine by so many workers, each of which takes the events that it comes to and passes the gate before a slice.
-/// Its logs lie on the first devices of the call, which are four; the others get no call. It prints each reply as it comes, and at the
+/// All four devices of the call are opened, and the records in front of them tell which hold its logs. It prints each reply as it comes, and at the
 /// end the actors and the end line. At last a line of each event that was taken is written to the trace.
 ///
 /// The status is `Done`, or tells what stopped the call: `Logs`, a log is refused and no run began; `LogFault`, a log's device failed
-/// before the run or in it, and of several that failed in it the one of the least number is named; `OutFault`, the output failed;
+/// before the run or in it, and of several that failed in it the one of the log of the least number is named; `OutFault`, the output failed;
 /// `TraceFault`, all was done but the trace; `Memory`, there was no memory, before the run or in it. With each of them it is stated
 /// what was printed and traced, and what is left on the logs recovers. Whether it returns is not promised.
 pub fn crew_work<
@@ -148,12 +148,12 @@ pub fn crew_work<
 }
 
 /// Runs a work on the machine by so many workers, each of which takes the events that it comes to and passes the gate before a slice.
-/// Its logs lie on the first devices of the call, which are four; the others get no call. The replies go nowhere, so the output stays
+/// All four devices of the call are opened, and the records in front of them tell which hold its logs. The replies go nowhere, so the output stays
 /// with the caller's thread: where the run has ended the line of its summary is printed, and nothing else. At last a line of each
 /// event that was taken is written to the trace.
 ///
 /// The status is `Done`, or tells what stopped the call: `Logs`, a log is refused and no run began; `LogFault`, a log's device failed
-/// before the run or in it, and of several that failed in it the one of the least number is named; `OutFault`, the output failed;
+/// before the run or in it, and of several that failed in it the one of the log of the least number is named; `OutFault`, the output failed;
 /// `TraceFault`, all was done but the trace; `Memory`, there was no memory, before the run or in it. With each of them it is stated
 /// what was printed and traced, and what is left on the logs recovers. Whether it returns is not promised.
 pub fn crew_summary<

@@ -7,7 +7,7 @@ use Rattle.std.proofs.lemmas.List.Concat.{flat_map-append}
 use Rattle.std.proofs.lemmas.Option.{slice_get_past, slice_get_read}
 use Rattle.run_work.specs.snap_base.declared.ids.Bid.{Bid}
 use Rattle.run_work.specs.snap_base.declared.ids.Tid.{Tid}
-use Rattle.snap_recover.specs.declared.openings.Kept.{Kept}
+use Rattle.run_work.specs.run_opening.snap_recover.declared.openings.Kept.{Kept}
 use Rattle.snap_report.specs.Lines.{all_kept_text, batch_text, kept_text, lines_of, pact_place}
 
 pub all_kept_more : (all : List Kept) (n : ℕ) (d : Kept) → n < length all → all_kept_text (take n all) ++ lines_of (get_or all n d) ≡ all_kept_text (take (n + 1) all)

@@ -11,19 +11,21 @@ use Rattle.run_work.specs.run_opening.Opens.{MayOpen}
 use Rattle.run_work.specs.run_recovery.Schedules.{free}
 use Rattle.run_work.specs.Runs.{Printing, RunUse, IsAnswerOf, IsWorkAnswer, IsOfLogs}
 use Rattle.run_work.specs.Writings.{Writing, WritesNothing}
-use Rattle.snap_recover.specs.declared.openings.Opening.{Opening}
+use Rattle.run_work.specs.run_opening.snap_recover.declared.openings.Opening.{Opening}
 use Rattle.command_words.specs.declared.commands.Command.{Command}
-use Rattle.command_words.specs.declared.commands.Command.TheVariants.{Run, Recover, Migrate, Audit, Gen, Bench}
+use Rattle.command_words.specs.declared.commands.Command.TheVariants.{Run, Recover, Migrate, Compact, Audit, Gen, Bench}
 use Rattle.command_words.specs.CommandLaws.{OneCommand}
 use Rattle.command_words.specs.Commands.{IsCommand}
-use Rattle.command_words.specs.Words.{AreLastWorkers, IsRunCommand, IsRecover, IsMigrate, IsAudit, IsGen, IsBench, IsForm, IsUsageFault}
+use Rattle.command_words.specs.Words.{AreLastWorkers, IsRunCommand, IsRecover, IsMigrate, IsCompact, IsAudit, IsGen, IsBench, IsForm, IsUsageFault}
 use Rattle.command_words.specs.Workers.{workers_in, AskFor}
 use Rattle.snap_run.specs.Uses.{Reading, Use}
 use Rattle.snap_run.specs.Audits.{IsAuditAnswer}
+use Rattle.log_compaction.specs.Crashes.{CompactsSafely}
+use Rattle.snap_run.specs.Compactions.{IsCompactAnswer, compact_done, compact_refused, compact_too_many, compact_memory, compact_log_fault, compact_out_fault}
 use Rattle.snap_run.specs.Migrations.{IsMigrateAnswer, migrate_done, migrate_refused, migrate_memory, migrate_log_fault, migrate_out_fault}
 use Rattle.snap_run.specs.Recoveries.{IsRecoverAnswer, recover_done, recover_refused, recover_memory, recover_log_fault, recover_out_fault}
 use Rattle.snap_run.specs.Answers.{OfText, schedule_asked, ran_of, ReadsNothing, IsInputAnswer, input_refused, input_memory, input_read_fault, TouchesNothing, TakesNoEvent, IsGenAnswer}
-use Rattle.snap_run.specs.Answers.{IsMeasured, ran, recovered, generated, measured, migrated, audited, refused, GetsNoCall, IsUntroubled, MayBeMeasured}
+use Rattle.snap_run.specs.Answers.{IsMeasured, ran, recovered, generated, measured, migrated, compacted, audited, refused, GetsNoCall, IsUntroubled, MayBeMeasured}
 use Rattle.work_gen.specs.Generated.{generated_text}
 use Rattle.snap_run.specs.Outcomes.{IsOutcome}
 use Rattle.record_log.specs.txn_records.declared.records.Record.{Record}
@@ -75,6 +77,24 @@ gen_not_audit one words count seed gen audit = let e : Gen count seed ≡ Audit 
 pub bench_not_audit : OneCommand → (words : List (List ℕ)) (count seed n : ℕ) → IsBench words count seed n → IsAudit words → ⊥
 bench_not_audit one words count seed n bench audit = let e : Bench count seed n ≡ Audit = one words (Bench count seed n) Audit bench audit in cc
 
+pub run_not_compact : OneCommand → (words : List (List ℕ)) (n seed : ℕ) → IsRunCommand words n seed → IsCompact words → ⊥
+run_not_compact one words n seed run compact = let e : Run n seed ≡ Compact = one words (Run n seed) Compact run compact in cc
+
+pub recover_not_compact : OneCommand → (words : List (List ℕ)) → IsRecover words → IsCompact words → ⊥
+recover_not_compact one words recover compact = let e : Recover ≡ Compact = one words Recover Compact recover compact in cc
+
+pub migrate_not_compact : OneCommand → (words : List (List ℕ)) → IsMigrate words → IsCompact words → ⊥
+migrate_not_compact one words migrate compact = let e : Migrate ≡ Compact = one words Migrate Compact migrate compact in cc
+
+pub audit_not_compact : OneCommand → (words : List (List ℕ)) → IsAudit words → IsCompact words → ⊥
+audit_not_compact one words audit compact = let e : Audit ≡ Compact = one words Audit Compact audit compact in cc
+
+pub gen_not_compact : OneCommand → (words : List (List ℕ)) (count seed : ℕ) → IsGen words count seed → IsCompact words → ⊥
+gen_not_compact one words count seed gen compact = let e : Gen count seed ≡ Compact = one words (Gen count seed) Compact gen compact in cc
+
+pub bench_not_compact : OneCommand → (words : List (List ℕ)) (count seed n : ℕ) → IsBench words count seed n → IsCompact words → ⊥
+bench_not_compact one words count seed n bench compact = let e : Bench count seed n ≡ Compact = one words (Bench count seed n) Compact bench compact in cc
+
 -- a command is a form
 form_of : (words : List (List ℕ)) (c : Command) → IsCommand words c → IsForm words
 form_of words (Run n seed) is = inl (n, seed, is)
@@ -82,7 +102,8 @@ form_of words Recover is = inr (inl is)
 form_of words (Gen count seed) is = inr (inr (inl (count, seed, is)))
 form_of words (Bench count seed n) is = inr (inr (inr (inl (count, seed, n, is))))
 form_of words Migrate is = inr (inr (inr (inr (inl is))))
-form_of words Audit is = inr (inr (inr (inr (inr is))))
+form_of words Audit is = inr (inr (inr (inr (inr (inl is)))))
+form_of words Compact is = inr (inr (inr (inr (inr (inr is)))))
 
 -- the command that they are says how many workers they ask for
 pub asked : OneCommand → (words : List (List ℕ)) (n : ℕ) (c : Command) → AskFor words n → IsCommand words c → workers_in c ≡ n
@@ -116,6 +137,7 @@ input_outcome one u n seed s run nothing a = record {
   opened = λ recover. absurd (not_both one u.words n seed run recover);
   kept = λ recover. absurd (not_both one u.words n seed run recover);
   migrated = λ migrate. absurd (run_not_migrate one u.words n seed run migrate);
+  compacted = λ compact. absurd (run_not_compact one u.words n seed run compact);
 }
 
 pub input_not_of_logs : (r : Reading) (s : Status) → IsInputAnswer r s → ¬ IsOfLogs s
@@ -143,6 +165,7 @@ run_outcome one u n seed w s run of a = record {
   opened = λ recover. absurd (not_both one u.words n seed run recover);
   kept = λ recover. absurd (not_both one u.words n seed run recover);
   migrated = λ migrate. absurd (run_not_migrate one u.words n seed run migrate);
+  compacted = λ compact. absurd (run_not_compact one u.words n seed run compact);
 }
 
 -- several workers take any schedule
@@ -193,6 +216,7 @@ recover_outcome one u s recover nothing none untraced opened kept a = record {
   opened = λ _. opened;
   kept = λ _. kept;
   migrated = λ migrate. absurd (recover_not_migrate one u.words recover migrate);
+  compacted = λ compact. absurd (recover_not_compact one u.words recover compact);
 }
 
 pub migrate_calls : (before after : List Device) (out : Writing) (s : Status) → IsMigrateAnswer before after out s → GetsNoCall s → ⊥
@@ -209,6 +233,25 @@ migrate_outcome one u s migrate nothing none untraced kept a = record {
   opened = λ recover. absurd (recover_not_migrate one u.words recover migrate);
   kept = λ recover. absurd (recover_not_migrate one u.words recover migrate);
   migrated = λ _. kept;
+  compacted = λ compact. absurd (migrate_not_compact one u.words migrate compact);
+}
+
+pub compact_calls : (before after : List Device) (out : Writing) (s : Status) → IsCompactAnswer before after out s → GetsNoCall s → ⊥
+compact_calls before after out s (compact_done generation is writes) none = none
+compact_calls before after out s (compact_refused log offset cause is nothing) none = none
+compact_calls before after out s (compact_too_many logs is nothing) none = none
+compact_calls before after out s (compact_memory is nothing) none = none
+compact_calls before after out s (compact_log_fault log lt is nothing) none = none
+compact_calls before after out s (compact_out_fault generation is front rose) none = none
+
+pub compact_outcome : OneCommand → (u : Use) (s : Status) → IsCompact u.words → ReadsNothing u.reading → u.kept ≡ [] → WritesNothing u.tracing → CompactsSafely u.devices_before u.devices_after
+    → IsCompactAnswer u.devices_before u.devices_after u.writing s → IsOutcome u s
+compact_outcome one u s compact nothing none untraced safe a = record {
+  answer = compacted compact nothing none untraced a;
+  opened = λ recover. absurd (recover_not_compact one u.words recover compact);
+  kept = λ recover. absurd (recover_not_compact one u.words recover compact);
+  migrated = λ migrate. absurd (migrate_not_compact one u.words migrate compact);
+  compacted = λ _. safe;
 }
 
 pub usage_outcome : (u : Use) (place : ℕ) → IsUsageFault u.words place → ReadsNothing u.reading → TouchesNothing u → IsOutcome u (status.Usage place)
@@ -217,6 +260,7 @@ usage_outcome u place fault reads nothing = record {
   opened = λ recover. absurd (fault.no_form (inr (inl recover)));
   kept = λ recover. absurd (fault.no_form (inr (inl recover)));
   migrated = λ migrate. absurd (fault.no_form (inr (inr (inr (inr (inl migrate))))));
+  compacted = λ compact. absurd (fault.no_form (inr (inr (inr (inr (inr (inr compact)))))));
 }
 
 pub gen_outcome : OneCommand → (u : Use) (count seed : ℕ) (s : Status) → IsGen u.words count seed → ReadsNothing u.reading → TakesNoEvent u → IsGenAnswer (generated_text count seed) u.writing s → IsOutcome u s
@@ -225,6 +269,7 @@ gen_outcome one u count seed s gen reads nothing a = record {
   opened = λ recover. absurd (recover_not_gen one u.words count seed recover gen);
   kept = λ recover. absurd (recover_not_gen one u.words count seed recover gen);
   migrated = λ migrate. absurd (gen_not_migrate one u.words count seed gen migrate);
+  compacted = λ compact. absurd (gen_not_compact one u.words count seed gen compact);
 }
 
 pub bench_outcome : OneCommand → (u : Use) (count seed n : ℕ) (s : Status) → IsBench u.words count seed n → ReadsNothing u.reading → IsMeasured u (schedule_asked n 0) count seed s
@@ -234,6 +279,7 @@ bench_outcome one u count seed n s bench reads a = record {
   opened = λ recover. absurd (recover_not_bench one u.words count seed n recover bench);
   kept = λ recover. absurd (recover_not_bench one u.words count seed n recover bench);
   migrated = λ migrate. absurd (bench_not_migrate one u.words count seed n bench migrate);
+  compacted = λ compact. absurd (bench_not_compact one u.words count seed n bench compact);
 }
 
 pub audit_outcome : OneCommand → (u : Use) (s : Status) → IsAudit u.words → TakesNoEvent u → IsAuditAnswer u.reading u.writing s → IsOutcome u s
@@ -242,6 +288,7 @@ audit_outcome one u s audit nothing a = record {
   opened = λ recover. absurd (recover_not_audit one u.words recover audit);
   kept = λ recover. absurd (recover_not_audit one u.words recover audit);
   migrated = λ migrate. absurd (migrate_not_audit one u.words migrate audit);
+  compacted = λ compact. absurd (audit_not_compact one u.words audit compact);
 }
 
 -- the words tell one count and one seed

@@ -3,7 +3,7 @@ use Rattle.std.specs.Prelude.{◌≡◌, ◌+◌, ◌⊎◌, ⊤, ℕ, zero, suc
 use Rattle.std.specs.Io.KnownBytes.{Keeps, Consumes, IsAtEnd}
 use Rattle.snap_outside.specs.Causes.{Rose}
 use Rattle.record_log.specs.txn_records.declared.records.Record.{Record}
-use Rattle.snap_recover.specs.declared.openings.Opening.{Opening}
+use Rattle.run_work.specs.run_opening.snap_recover.declared.openings.Opening.{Opening}
 use Rattle.snap_report.specs.declared.statuses.Status.{Status}
 use Rattle.snap_report.specs.declared.statuses.Status.TheVariants as status
 use Rattle.snap_work.specs.declared.faults.WorkCause.{WorkCause}
@@ -11,12 +11,13 @@ use Rattle.snap_work.specs.Works.{Work}
 use Rattle.work_gen.specs.work_text.Reads.{IsWork, IsFirstWorkFault}
 use Rattle.run_work.specs.run_opening.Opens.{MayOpen}
 use Rattle.run_work.specs.run_recovery.Schedules.{Schedule, seeded, free}
-use Rattle.command_words.specs.Words.{IsRunCommand, IsRecover, IsMigrate, IsAudit, IsGen, IsBench, IsUsageFault}
+use Rattle.command_words.specs.Words.{IsRunCommand, IsRecover, IsMigrate, IsCompact, IsAudit, IsGen, IsBench, IsUsageFault}
 use Rattle.snap_run.specs.Uses.{Reading, Use}
 use Rattle.run_work.specs.Writings.{Writing, WritesNothing, Writes, WritesFront}
 use Rattle.run_work.specs.Runs.{RunUse, IsWorkAnswer, IsBenchAnswer}
 use Rattle.work_gen.specs.Generated.{generated_text}
 use Rattle.snap_run.specs.Audits.{IsAuditAnswer}
+use Rattle.snap_run.specs.Compactions.{IsCompactAnswer}
 use Rattle.snap_run.specs.Migrations.{IsMigrateAnswer}
 use Rattle.snap_run.specs.Recoveries.{IsRecoverAnswer}
 use Rattle.snap_work.specs.declared.limits.TheConstants.{LONGEST_WORK}
@@ -97,8 +98,10 @@ pub data IsAnswer (u : Use) (s : Status) : Type 0 where
   generated : (count seed : ℕ) → IsGen u.words count seed → ReadsNothing u.reading → TakesNoEvent u → IsGenAnswer (generated_text count seed) u.writing s → IsAnswer u s
   -- a generated text is run, by the schedule of seed 0 where there are no workers
   measured : (count seed workers : ℕ) → IsBench u.words count seed workers → ReadsNothing u.reading → IsMeasured u (schedule_asked workers 0) count seed s → IsAnswer u s
-  -- the logs of format 1 are made ones of format 2
+  -- those logs in use that are of format 1 are made ones of format 2
   migrated : IsMigrate u.words → ReadsNothing u.reading → u.kept ≡ [] → WritesNothing u.tracing → IsMigrateAnswer u.devices_before u.devices_after u.writing s → IsAnswer u s
+  -- a checkpoint is written in place of old records
+  compacted : IsCompact u.words → ReadsNothing u.reading → u.kept ≡ [] → WritesNothing u.tracing → IsCompactAnswer u.devices_before u.devices_after u.writing s → IsAnswer u s
   -- the input is audited
   audited : IsAudit u.words → TakesNoEvent u → IsAuditAnswer u.reading u.writing s → IsAnswer u s
   -- the words are no form

@@ -1,5 +1,6 @@
 pub mod Answers
 pub mod Audits
+pub mod Compactions
 pub mod Migrations
 pub mod Outcomes
 pub mod Recoveries

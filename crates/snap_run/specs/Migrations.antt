@@ -1,4 +1,4 @@
--- Why the command that makes logs of format 1 ones of format 2 answers what it answers.
+-- Why the command that makes those logs in use that are of format 1 ones of format 2 answers what it answers.
 use Rattle.std.specs.Prelude.{ℕ, ◌<◌, List, length}
 use Rattle.command_words.specs.Words.{IsMigrate}
 use Rattle.log_migration.specs.Migrated.{AreMigrated, IsMigrateNo}
@@ -7,7 +7,7 @@ use Rattle.log_opening.specs.declared.refusals.LogsNo.TheVariants as ending
 use Rattle.run_work.specs.run_recovery.Recoverable.{AreRecoverable}
 use Rattle.run_work.specs.Writings.{Writing, WritesNothing, Writes, WritesFront}
 use Rattle.snap_outside.specs.Causes.{Rose}
-use Rattle.snap_recover.specs.declared.causes.LogCause.{LogCause}
+use Rattle.run_work.specs.run_opening.snap_recover.declared.causes.LogCause.{LogCause}
 use Rattle.log_opening.specs.log_compact.declared.folds.Folded.{Folded}
 use Rattle.snap_report.specs.Lines.{migrated_text}
 use Rattle.snap_report.specs.declared.statuses.Status.{Status}
@@ -15,7 +15,7 @@ use Rattle.snap_report.specs.declared.statuses.Status.TheVariants as status
 use Rattle.snap_run.specs.Uses.{Use}
 use Rattle.record_log.specs.txn_records.declared.records.Record.{Record}
 
--- the answers of the command that makes logs of format 1 ones of format 2
+-- the answers of the command that makes those logs in use that are of format 1 ones of format 2
 pub data IsMigrateAnswer (before after : List Device) (out : Writing) : Status → Type 0 where
   migrate_done : (count : ℕ) → AreMigrated before after count → Writes out (migrated_text count) → IsMigrateAnswer before after out status.Done
   migrate_refused : (log offset : ℕ) (cause : LogCause) → IsMigrateNo before after (ending.Refused log offset cause) → WritesNothing out
@@ -26,9 +26,9 @@ pub data IsMigrateAnswer (before after : List Device) (out : Writing) : Status �
   migrate_out_fault : (count : ℕ) → AreMigrated before after count → WritesFront out (migrated_text count) → Rose out.faults_before out.faults_after
       → IsMigrateAnswer before after out status.OutFault
 
--- The words migrate the logs; these are as many as log 0 says, hold these records, and recover; and no count rises.
-pub record IsMigratable (u : Use) (logs : List (List Record)) : Type 0 where
+-- The words migrate the logs; each device holds a log, those in use hold these records, and recover; and no count rises.
+pub record IsMigratable (u : Use) (lists : List (List Record)) : Type 0 where
   pub migrate : IsMigrate u.words
-  pub recovers : (f : Folded) × AreRecoverable u.devices_before logs f
+  pub recovers : (head : ℕ) × (f : Folded) × AreRecoverable u.devices_before head lists f
   pub devices : (log : ℕ) → log < length u.devices_before → ¬ Rose (device_at u.devices_before log).faults (device_at u.devices_after log).faults
   pub sink : ¬ Rose u.writing.faults_before u.writing.faults_after

@@ -3,7 +3,8 @@ use Rattle.std.specs.List.{AllZip}
 use Rattle.snap_report.specs.declared.statuses.Status.{Status}
 use Rattle.record_log.specs.Records.{KeepsRecords}
 use Rattle.log_opening.specs.Devices.{Device, IsOpenedAtMost}
-use Rattle.command_words.specs.Words.{IsMigrate, IsRecover}
+use Rattle.command_words.specs.Words.{IsCompact, IsMigrate, IsRecover}
+use Rattle.log_compaction.specs.Crashes.{CompactsSafely}
 use Rattle.snap_run.specs.Uses.{Use}
 use Rattle.snap_run.specs.Answers.{IsAnswer}
 
@@ -16,3 +17,5 @@ pub record IsOutcome (u : Use) (s : Status) : Type 0 where
   pub kept : IsRecover u.words → AllZip (λ (a b : Device). KeepsRecords a.told b.told) u.devices_before u.devices_after
   -- a crash at any moment of the command that makes logs of format 1 ones of format 2 loses no record, and the logs recover to what they did before
   pub migrated : IsMigrate u.words → AllZip (λ (a b : Device). KeepsRecords a.told b.told) u.devices_before u.devices_after
+  -- at every crash in the command that writes a checkpoint, whatever is left of each device, the logs in use fold to what they folded to
+  pub compacted : IsCompact u.words → CompactsSafely u.devices_before u.devices_after

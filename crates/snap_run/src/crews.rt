@@ -5,7 +5,7 @@ ghost use Rattle.command_words.specs.Workers.{AskFor};
 ghost use Rattle.run_work.specs.run_recovery.Schedules.{free};
 ghost use Rattle.run_work.specs.Runs.{IsOfLogs, OutStood};
 ghost use Rattle.snap_outside.specs.Causes.{EndsAtFault};
-ghost use Rattle.snap_recover.specs.declared.openings.Opening.{Opening};
+ghost use Rattle.run_work.specs.run_opening.snap_recover.declared.openings.Opening.{Opening};
 ghost use Rattle.snap_report.specs.declared.statuses.Status.TheVariants as status;
 ghost use Rattle.snap_run.specs.Answers.{IsUntroubled, IsMeasured, MayBeMeasured, GetsNoCall};
 ghost use Rattle.snap_run.specs.Outcomes.{IsOutcome};

@@ -2,13 +2,14 @@
 ghost use Rattle.std.specs.Prelude.{◌≡◌, ◌⊎◌, ℕ, List};
 ghost use Rattle.command_words.specs.Words.{IsBench};
 ghost use Rattle.run_work.specs.Runs.{IsOfLogs};
-ghost use Rattle.snap_recover.specs.declared.openings.Opening.{Opening};
+ghost use Rattle.run_work.specs.run_opening.snap_recover.declared.openings.Opening.{Opening};
 ghost use Rattle.snap_outside.specs.Causes.{Rose};
 ghost use Rattle.snap_report.specs.declared.audit_faults.AuditFault.{AuditFault};
 ghost use Rattle.snap_report.specs.declared.statuses.Status.{Status};
 ghost use Rattle.snap_report.specs.declared.statuses.Status.TheVariants as status;
 ghost use Rattle.snap_run.specs.Answers.{IsUntroubled, IsPrintable, MayBeMeasured};
 ghost use Rattle.snap_run.specs.Audits.{IsAuditable};
+ghost use Rattle.snap_run.specs.Compactions.{IsCompactable};
 ghost use Rattle.snap_run.specs.Migrations.{IsMigratable};
 ghost use Rattle.snap_run.specs.Outcomes.{IsOutcome};
 ghost use Rattle.snap_run.specs.Recoveries.{IsRecoverable};
@@ -20,7 +21,10 @@ ghost use Rattle.record_log.specs.txn_records.declared.records.Record.{Record};
 
 use command_words::one_command;
 use input_laws::{an_input_in_order_has_no_fault, one_first_fault};
-use log_migration::refused_are_not_folded;
+use log_migration::{
+    damage_is_no_log, fronts_tell, one_difference, one_fold, one_front, one_list, one_use,
+    refused_are_not_folded,
+};
 use record_log::{no_more_records, one_list_of_records};
 use run_work::Event;
 use snap_report::Status;
@@ -48,6 +52,7 @@ pub(crate) fn done_or_no_memory()
         → IsOutcome u s → IsUntroubled u text w records o → ¬ IsOfLogs s → (s ≡ status.Done) ⊎ (s ≡ status.Memory) }
     ensures complete_recover { (u : Use) (s : Status) (kept : List (List Record)) → IsOutcome u s → IsRecoverable u kept → (s ≡ status.Done) ⊎ (s ≡ status.Memory) }
     ensures complete_migrate { (u : Use) (s : Status) (kept : List (List Record)) → IsOutcome u s → IsMigratable u kept → (s ≡ status.Done) ⊎ (s ≡ status.Memory) }
+    ensures complete_compact { (u : Use) (s : Status) (kept : List (List Record)) → IsOutcome u s → IsCompactable u kept → (s ≡ status.Done) ⊎ (s ≡ status.Memory) }
     ensures complete_gen { (u : Use) (s : Status) → IsOutcome u s → IsPrintable u → (s ≡ status.Done) ⊎ (s ≡ status.Memory) }
     ensures complete_audit { (u : Use) (s : Status) (input : List ℕ)
         → IsOutcome u s → IsAuditable u input → IsInOrder input → ¬ Rose u.writing.faults_before u.writing.faults_after → (s ≡ status.Done) ⊎ (s ≡ status.Memory) }
@@ -57,6 +62,13 @@ pub(crate) fn done_or_no_memory()
         → IsOutcome u s → IsBench u.words count seed workers → MayBeMeasured u count seed w records o → ¬ IsOfLogs s → (s ≡ status.Done) ⊎ (s ≡ status.Memory) }
 {
     one_command();
+    one_difference();
+    damage_is_no_log();
+    one_list();
+    one_front();
+    fronts_tell();
+    one_use();
+    one_fold();
     refused_are_not_folded();
     fault_or_work();
     one_list_of_records();

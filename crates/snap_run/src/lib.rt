@@ -2,6 +2,7 @@
 #![tactic(auto)]
 
 mod audits;
+mod compactions;
 mod crews;
 mod endings;
 mod migrations;
@@ -11,5 +12,6 @@ mod top;
 mod works;
 
 pub use endings::Outcome;
+pub use log_migration::fronts_of_records;
 pub use solo::run_solo;
 pub use top::run;

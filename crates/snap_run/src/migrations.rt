@@ -1,4 +1,4 @@
-//! The command that makes the logs of format 1 ones of format 2.
+//! The command that makes those logs in use that are of format 1 ones of format 2.
 ghost use Rattle.std.specs.Prelude.{◌≡◌, ◌≢◌, vec_len};
 ghost use Rattle.std.specs.List.{AllZip};
 ghost use Rattle.log_opening.specs.Devices.{Device, devices_of};
@@ -13,7 +13,7 @@ use snap_outside::{LogDev, Sink};
 use snap_report::Status;
 use std::alloc::Global;
 
-/// Makes the logs of format 1 on these devices ones of format 2, and prints how many there were.
+/// Makes those logs in use on these devices that are of format 1 ones of format 2, and prints how many there were.
 pub(crate) fn print_migrated<D: LogDev, O: Sink>(
     alloc: Global,
     devices: &mut Vec<D>,

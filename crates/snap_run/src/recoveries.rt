@@ -8,10 +8,10 @@ ghost use Rattle.snap_report.specs.Lines.{actors_text, all_kept_text, batch_text
 ghost use Rattle.run_work.specs.Writings.{writing_of};
 ghost use Rattle.snap_run.specs.Recoveries.{recovered_report, IsRecoverAnswer};
 
+use log_migration::Kept;
 use log_opening::{Folded, recover_kept};
 use run_work::{ActorId, Bid, Memory, Place, State, Tid, push_actor, status_of, write_all};
 use snap_outside::{LogDev, Sink};
-use snap_recover::Kept;
 use snap_report::{Status, kept_line, recovered_line};
 use std::alloc::Global;
 

@@ -5,11 +5,12 @@ ghost use Rattle.command_words.specs.Workers.{AskFor};
 ghost use Rattle.run_work.specs.run_recovery.Schedules.{seeded};
 ghost use Rattle.run_work.specs.Runs.{IsOfLogs, OutStood};
 ghost use Rattle.snap_outside.specs.Causes.{EndsAtFault, Rose};
-ghost use Rattle.snap_recover.specs.declared.openings.Opening.{Opening};
+ghost use Rattle.run_work.specs.run_opening.snap_recover.declared.openings.Opening.{Opening};
 ghost use Rattle.snap_report.specs.declared.audit_faults.AuditFault.{AuditFault};
 ghost use Rattle.snap_report.specs.declared.statuses.Status.TheVariants as status;
 ghost use Rattle.snap_run.specs.Answers.{IsUntroubled, IsPrintable, IsMeasured, MayBeMeasured, GetsNoCall};
 ghost use Rattle.snap_run.specs.Audits.{IsAuditable};
+ghost use Rattle.snap_run.specs.Compactions.{IsCompactable};
 ghost use Rattle.snap_run.specs.Migrations.{IsMigratable};
 ghost use Rattle.snap_run.specs.Outcomes.{IsOutcome};
 ghost use Rattle.snap_run.specs.Recoveries.{IsRecoverable};
@@ -21,6 +22,7 @@ ghost use Rattle.snap_work.specs.declared.limits.TheConstants.{MOST_TRANSACTIONS
 ghost use Rattle.record_log.specs.txn_records.declared.records.Record.{Record};
 
 use crate::audits::print_audit;
+use crate::compactions::print_compacted;
 use crate::endings::{Outcome, done_or_no_memory};
 use crate::migrations::print_migrated;
 use crate::recoveries::print_recovered;
@@ -33,11 +35,12 @@ use std::alloc::Global;
 use work_gen::one_work;
 
 /// Does what the words ask for. `run` reads a work text from `input` and runs it on the machine by the schedule of the seed: it
-/// goes on from what the text's logs hold, writes the records of the run there, prints its replies and its end to `out`, and
-/// at last a line of each event to `trace`. `audit` reads the papers of a run and says whether they
-/// are in order. The other commands read no input: `recover` prints what the logs recover to, `migrate`
-/// makes those of format 1 ones of format 2, `gen` prints a generated text, and `bench` runs one as `run` runs its input, but
-/// prints the summary of the run alone. The words ask for no workers. Each refusal is a status of the outcome. It returns.
+/// goes on from what the logs in use hold, writes the records of the run there, prints its replies and its end to `out`, and
+/// at last a line of each event to `trace`. `audit` reads the papers of a run and says whether they are in order. The other
+/// commands read no input: `recover` prints what the logs in use recover to, `migrate` makes those of format 1 ones of format 2,
+/// `compact` writes a checkpoint in place of their records, `gen` prints a generated text, and `bench` runs one as `run` runs
+/// its input, but prints the summary of the run alone. The words ask for no workers. Each refusal is a status of the outcome. It
+/// returns.
 pub fn run_solo<I: Source, D: LogDev, O: Sink, T: Sink>(
     alloc: Global,
     words: &[String],
@@ -57,9 +60,12 @@ pub fn run_solo<I: Source, D: LogDev, O: Sink, T: Sink>(
     // Where nothing stands in the way of recovering, what the logs recover to is printed, or there is no memory.
     ensures complete_recover { let u : Use = use_by I.Source D.LogDev O.Sink T.Sink (map string_bytes words.now) input.old input.new logs out trace result in
         (kept : List (List Record)) → IsRecoverable u kept → (result.status ≡ status.Done) ⊎ (result.status ≡ status.Memory) }
-    // Where nothing stands in the way of recovering, the logs of format 1 are made ones of format 2, or there is no memory.
+    // Where nothing stands in the way of recovering, those logs in use that are of format 1 are made ones of format 2, or there is no memory.
     ensures complete_migrate { let u : Use = use_by I.Source D.LogDev O.Sink T.Sink (map string_bytes words.now) input.old input.new logs out trace result in
         (kept : List (List Record)) → IsMigratable u kept → (result.status ≡ status.Done) ⊎ (result.status ≡ status.Memory) }
+    // Where nothing stands in the way of compacting, a checkpoint is written in place of old records, or there is no memory.
+    ensures complete_compact { let u : Use = use_by I.Source D.LogDev O.Sink T.Sink (map string_bytes words.now) input.old input.new logs out trace result in
+        (kept : List (List Record)) → IsCompactable u kept → (result.status ≡ status.Done) ⊎ (result.status ≡ status.Memory) }
     // Where the output takes it, a generated text is printed, or there is no memory.
     ensures complete_gen { let u : Use = use_by I.Source D.LogDev O.Sink T.Sink (map string_bytes words.now) input.old input.new logs out trace result in
         IsPrintable u → (result.status ≡ status.Done) ⊎ (result.status ≡ status.Memory) }
@@ -133,6 +139,15 @@ fn answer<I: Source, D: LogDev, O: Sink, T: Sink>(
         Ok(Command::Migrate) => {
             let mut call = call;
             let status = print_migrated(alloc, &mut call.logs, &mut call.out);
+            HasRun {
+                kept: Vec::new(alloc),
+                status,
+                call,
+            }
+        }
+        Ok(Command::Compact) => {
+            let mut call = call;
+            let status = print_compacted(alloc, &mut call.logs, &mut call.out);
             HasRun {
                 kept: Vec::new(alloc),
                 status,

@@ -3,11 +3,12 @@ ghost use Rattle.std.specs.Prelude.{◌≡◌, ◌≢◌, ◌⊎◌, ℕ, List, 
 ghost use Rattle.command_words.specs.Words.{IsBench};
 ghost use Rattle.run_work.specs.Runs.{OutStood};
 ghost use Rattle.snap_outside.specs.Causes.{EndsAtFault, Rose};
-ghost use Rattle.snap_recover.specs.declared.openings.Opening.{Opening};
+ghost use Rattle.run_work.specs.run_opening.snap_recover.declared.openings.Opening.{Opening};
 ghost use Rattle.snap_report.specs.declared.audit_faults.AuditFault.{AuditFault};
 ghost use Rattle.snap_report.specs.declared.statuses.Status.TheVariants as status;
 ghost use Rattle.snap_run.specs.Answers.{IsUntroubled, IsPrintable, MayBeMeasured, GetsNoCall};
 ghost use Rattle.snap_run.specs.Audits.{IsAuditable};
+ghost use Rattle.snap_run.specs.Compactions.{IsCompactable};
 ghost use Rattle.snap_run.specs.Migrations.{IsMigratable};
 ghost use Rattle.snap_run.specs.Outcomes.{IsOutcome};
 ghost use Rattle.snap_run.specs.Recoveries.{IsRecoverable};
@@ -29,12 +30,12 @@ use std::thread::Threads;
 
 /// Does what the words ask for. `run` reads a work text from `input` and runs it on the machine: with no workers by the schedule
 /// of the seed, and else with so many, each of which takes the events that it comes to and passes the gate before a slice. It
-/// goes on from what the text's logs hold, writes the records of the run there, prints its replies and its end to `out`, and
-/// at last a line of each event to `trace`. `audit` reads the papers of a run and says whether they
-/// are in order. The other commands read no input: `recover` prints what the logs recover to, `migrate`
-/// makes those of format 1 ones of format 2, `gen` prints a generated text, and `bench` runs one as `run` runs its input, but
-/// prints the summary of the run alone. Each refusal is a status of the outcome. Without workers it returns; whether it returns with
-/// some is not promised.
+/// goes on from what the logs in use hold, writes the records of the run there, prints its replies and its end to `out`, and
+/// at last a line of each event to `trace`. `audit` reads the papers of a run and says whether they are in order. The other
+/// commands read no input: `recover` prints what the logs in use recover to, `migrate` makes those of format 1 ones of format 2,
+/// `compact` writes a checkpoint in place of their records, `gen` prints a generated text, and `bench` runs one as `run` runs
+/// its input, but prints the summary of the run alone. Each refusal is a status of the outcome. Without workers it returns;
+/// whether it returns with some is not promised.
 pub fn run<
     R: Threads + Wait + Sync,
     I: Source,
@@ -61,9 +62,12 @@ pub fn run<
     // Where nothing stands in the way of recovering, what the logs recover to is printed, or there is no memory.
     ensures complete_recover { let u : Use = use_by I.Source D.LogDev O.Sink T.Sink (map string_bytes words.now) input.old input.new logs out trace result in
         (kept : List (List Record)) → IsRecoverable u kept → (result.status ≡ status.Done) ⊎ (result.status ≡ status.Memory) }
-    // Where nothing stands in the way of recovering, the logs of format 1 are made ones of format 2, or there is no memory.
+    // Where nothing stands in the way of recovering, those logs in use that are of format 1 are made ones of format 2, or there is no memory.
     ensures complete_migrate { let u : Use = use_by I.Source D.LogDev O.Sink T.Sink (map string_bytes words.now) input.old input.new logs out trace result in
         (kept : List (List Record)) → IsMigratable u kept → (result.status ≡ status.Done) ⊎ (result.status ≡ status.Memory) }
+    // Where nothing stands in the way of compacting, a checkpoint is written in place of old records, or there is no memory.
+    ensures complete_compact { let u : Use = use_by I.Source D.LogDev O.Sink T.Sink (map string_bytes words.now) input.old input.new logs out trace result in
+        (kept : List (List Record)) → IsCompactable u kept → (result.status ≡ status.Done) ⊎ (result.status ≡ status.Memory) }
     // Where the output takes it, a generated text is printed, or there is no memory.
     ensures complete_gen { let u : Use = use_by I.Source D.LogDev O.Sink T.Sink (map string_bytes words.now) input.old input.new logs out trace result in
         IsPrintable u → (result.status ≡ status.Done) ⊎ (result.status ≡ status.Memory) }

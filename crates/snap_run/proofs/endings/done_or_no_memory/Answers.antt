@@ -1,6 +1,6 @@
 use Rattle.snap_run.proofs.AuditComplete.{audited_in_order, audited_with_fault}
 use Rattle.snap_run.proofs.Complete.{completed, completed_gen, completed_bench}
-use Rattle.snap_run.proofs.RecoverComplete.{RecordLaws, completed_migrate, completed_recover}
+use Rattle.snap_run.proofs.RecoverComplete.{laws_of, completed_compact, completed_migrate, completed_recover}
 use Rattle.snap_run.proofs.endings.done_or_no_memory.Goals as goal
 
 pub returns-clause-complete : goal.returns-clause-complete
@@ -9,13 +9,21 @@ returns-clause-complete c = λ u s text w records o out untroubled not.
 
 pub returns-clause-complete_recover : goal.returns-clause-complete_recover
 returns-clause-complete_recover c = λ u s kept out may.
-    let laws : RecordLaws = record { one_list = c.one_list_of_records.ensures; foreign = c.no_more_records.ensures.foreign; damaged = c.no_more_records.ensures.damaged; bad = c.no_more_records.ensures.bad } in
-    completed_recover c.one_command.ensures laws c.refused_are_not_folded.ensures u kept may.recovers may.devices may.sink may.recover s out.answer
+    let are = may.recovers in
+    completed_recover c.one_command.ensures (laws_of c.one_list.ensures c.one_difference.ensures.no_log c.damage_is_no_log.ensures c.one_list_of_records.ensures c.no_more_records.ensures.bad
+    c.one_front.ensures c.fronts_tell.ensures c.one_use.ensures c.one_fold.ensures c.refused_are_not_folded.ensures) u kept are.0 are.1 are.2 may.devices may.sink may.recover s out.answer
 
 pub returns-clause-complete_migrate : goal.returns-clause-complete_migrate
 returns-clause-complete_migrate c = λ u s kept out may.
-    let laws : RecordLaws = record { one_list = c.one_list_of_records.ensures; foreign = c.no_more_records.ensures.foreign; damaged = c.no_more_records.ensures.damaged; bad = c.no_more_records.ensures.bad } in
-    completed_migrate c.one_command.ensures laws c.refused_are_not_folded.ensures u kept may.recovers may.devices may.sink may.migrate s out.answer
+    let are = may.recovers in
+    completed_migrate c.one_command.ensures (laws_of c.one_list.ensures c.one_difference.ensures.no_log c.damage_is_no_log.ensures c.one_list_of_records.ensures c.no_more_records.ensures.bad
+    c.one_front.ensures c.fronts_tell.ensures c.one_use.ensures c.one_fold.ensures c.refused_are_not_folded.ensures) u kept are.0 are.1 are.2 may.devices may.sink may.migrate s out.answer
+
+pub returns-clause-complete_compact : goal.returns-clause-complete_compact
+returns-clause-complete_compact c = λ u s kept out may.
+    let are = may.recovers in
+    completed_compact c.one_command.ensures (laws_of c.one_list.ensures c.one_difference.ensures.no_log c.damage_is_no_log.ensures c.one_list_of_records.ensures c.no_more_records.ensures.bad
+    c.one_front.ensures c.fronts_tell.ensures c.one_use.ensures c.one_fold.ensures c.refused_are_not_folded.ensures) u kept are.0 are.1 are.2 may.devices may.sink are.3 may.compact s out.answer
 
 pub returns-clause-complete_gen : goal.returns-clause-complete_gen
 returns-clause-complete_gen c = λ u s out may. completed_gen c.one_command.ensures u may s out.answer

@@ -3,7 +3,7 @@ use Rattle.std.proofs.KnownBytes.{Keeps-refl}
 use Rattle.std.specs.Prelude.{string_bytes}
 use Rattle.run_work.specs.Calls.{CallState, call_of}
 use Rattle.run_work.specs.Runs.{OutStood}
-use Rattle.snap_run.proofs.Outcomes.{asked, audit_outcome, usage_outcome, recover_outcome, migrate_outcome, gen_outcome, bench_outcome, run_not_audit, bench_not_audit, run_not_gen, run_not_bench, gen_not_bench, same_measure}
+use Rattle.snap_run.proofs.Outcomes.{asked, audit_outcome, usage_outcome, recover_outcome, migrate_outcome, compact_outcome, compact_calls, run_not_compact, bench_not_compact, gen_outcome, bench_outcome, run_not_audit, bench_not_audit, run_not_gen, run_not_bench, gen_not_bench, same_measure}
 use Rattle.snap_run.proofs.solo.answer.Goals as goal
 use Rattle.snap_outside.proofs.AtFault.{surely}
 use Rattle.snap_outside.specs.Causes.{EndsAtFault}
@@ -50,6 +50,31 @@ returns-in-Ok-Migrate-clause-outcome g c =
     let after : CallState g.row.D.Denot g.row.T.Denot = call_of g.D.LogDev g.O.Sink g.T.Sink end.new.devices end.new.out call.trace in
     subst (λ (x : CallState g.row.D.Denot g.row.T.Denot). IsOutcome (use_of words reading x after kept) end.result) c.call-in-Ok-Migrate.view_is
     (migrate_outcome c.one_command.ensures (use_of words reading before after kept) end.result (subst (λ (k : Command). IsCommand words k) c.in-Ok-Migrate.field-0-is c.in-Ok-Migrate.ensures) (Keeps-refl _) c.new-in-Ok-Migrate.ensures.items (Keeps-refl _) end.ensures.safe end.ensures.answer)
+
+-- ---- a checkpoint is written
+
+pub returns-in-Ok-Compact-clause-outcome : goal.returns-in-Ok-Compact-clause-outcome
+returns-in-Ok-Compact-clause-outcome g c =
+    let words = map string_bytes c.args.words.now in
+    let reading = reading_of g.I.Source c.args.input.now c.args.input.now in
+    let call = c.call-in-Ok-Compact.inside in
+    let end = c.print_compacted-status in
+    let kept = c.new-in-Ok-Compact.result.items in
+    let before : CallState g.row.D.Denot g.row.T.Denot = call_of g.D.LogDev g.O.Sink g.T.Sink call.logs call.out call.trace in
+    let after : CallState g.row.D.Denot g.row.T.Denot = call_of g.D.LogDev g.O.Sink g.T.Sink end.new.devices end.new.out call.trace in
+    subst (λ (x : CallState g.row.D.Denot g.row.T.Denot). IsOutcome (use_of words reading x after kept) end.result) c.call-in-Ok-Compact.view_is
+    (compact_outcome c.one_command.ensures (use_of words reading before after kept) end.result (subst (λ (k : Command). IsCommand words k) c.in-Ok-Compact.field-0-is c.in-Ok-Compact.ensures) (Keeps-refl _) c.new-in-Ok-Compact.ensures.items (Keeps-refl _) end.ensures.safe end.ensures.answer)
+
+pub returns-in-Ok-Compact-clause-opens : goal.returns-in-Ok-Compact-clause-opens
+returns-in-Ok-Compact-clause-opens g c = λ text w records o t.
+    absurd (run_not_compact c.one_command.ensures _ t.run.0 t.run.1 t.run.2 (subst (λ (k : Command). IsCommand (map string_bytes c.args.words.now) k) c.in-Ok-Compact.field-0-is c.in-Ok-Compact.ensures))
+
+pub returns-in-Ok-Compact-clause-opens_bench : goal.returns-in-Ok-Compact-clause-opens_bench
+returns-in-Ok-Compact-clause-opens_bench g c = λ count seed workers w records o bench may.
+    absurd (bench_not_compact c.one_command.ensures _ count seed workers bench (subst (λ (k : Command). IsCommand (map string_bytes c.args.words.now) k) c.in-Ok-Compact.field-0-is c.in-Ok-Compact.ensures))
+
+pub returns-in-Ok-Compact-clause-untouched : goal.returns-in-Ok-Compact-clause-untouched
+returns-in-Ok-Compact-clause-untouched g c = λ none. let end = c.print_compacted-status in absurd (compact_calls _ _ _ end.result end.ensures.answer none)
 
 -- ---- the input is audited
 
@@ -156,6 +181,14 @@ pub returns-in-Ok-Migrate-clause-out_once : goal.returns-in-Ok-Migrate-clause-ou
 returns-in-Ok-Migrate-clause-out_once g c =
     let end = c.print_migrated-status in
     subst (λ (x : CallState g.row.D.Denot g.row.T.Denot). EndsAtFault (OutStood end.result) x.output.faults x.output.late (g.O.Sink.faults end.new.out) (g.O.Sink.late end.new.out)) c.call-in-Ok-Migrate.view_is
+    (surely _ _ _ _ (λ stood. stood.0) end.ensures.once)
+
+-- ---- a checkpoint is written, and the output gets no call behind one that failed
+
+pub returns-in-Ok-Compact-clause-out_once : goal.returns-in-Ok-Compact-clause-out_once
+returns-in-Ok-Compact-clause-out_once g c =
+    let end = c.print_compacted-status in
+    subst (λ (x : CallState g.row.D.Denot g.row.T.Denot). EndsAtFault (OutStood end.result) x.output.faults x.output.late (g.O.Sink.faults end.new.out) (g.O.Sink.late end.new.out)) c.call-in-Ok-Compact.view_is
     (surely _ _ _ _ (λ stood. stood.0) end.ensures.once)
 
 -- ---- the words are no form
