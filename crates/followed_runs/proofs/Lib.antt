@@ -1,0 +1,14 @@
+mod Ahead
+mod AlongRun
+mod Closed
+mod InOrder
+mod Numbers
+mod OneCommits
+mod ReadersFirst
+mod ReadOnce
+mod RoundsStand
+mod RunParts
+mod RunsSerial
+mod RunsStand
+mod Seen
+mod SerialFrom
