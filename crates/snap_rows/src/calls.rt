@@ -1,12 +1,12 @@
 //! Calls, and what is not as their rows say.
 //!
-//! The first line of a row tells the call. Its parts stand apart by `|`: the name of a text to run, `recover` or `migrate`; the numbers, from
-//! 1 on, of the calls that fail of log 0, of log 1, of the reads, of the writes of the output and of those of the trace, where 0
+//! The first line of a row tells the call. Its parts stand apart by `|`: the name of a text to run, `recover`, `migrate` or `compact`; the
+//! numbers, from 1 on, of the calls that fail of log 0, of log 1, of the reads, of the writes of the output and of those of the trace, where 0
 //! is none; and the four logs. Parts and numbers that are left out are empty and 0. Each line behind it tells what is so then:
 //!
 //! - `tells`: the status, what is printed, how many operations each log got, and the line of the status, as far as they stand
 //!   there; behind each is `|`, and `/` stands for a line feed
-//! - `leaves`: the logs; a part that is empty is a log that is as it was
+//! - `leaves`: the logs; a part that is empty is a log that is as it was, or a new one where an empty file was opened
 //! - `recovers`: what `recover` tells on what a crash leaves that keeps all
 //! - `fails at any call`: where each call of the outside fails in turn, the run ends there as it should; and what any crash leaves
 //!   behind a call of a log recovers to what was printed, and is what a further run goes on from

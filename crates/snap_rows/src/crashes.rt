@@ -148,7 +148,7 @@ fn has_actors(lines: &str, recovered: &str) -> bool {
 }
 
 /// Whether each reply that a transaction was committed is kept, with its place and its result.
-fn are_kept(printed: &str, recovered: &str) -> bool {
+pub(crate) fn are_kept(printed: &str, recovered: &str) -> bool {
     for line in printed.split('\n') {
         if let Some((word, reply)) = line.split_once(" committed ") {
             if word.starts_with("tx ") && !is_kept(reply, recovered) {

@@ -46,11 +46,6 @@ pub(crate) fn is_cut_off(place: Place, whole: &Ran, ran: &Ran) -> bool {
     }
 }
 
-/// Whether a run may go on to its end where the call with this number fails: it has fewer at this place. A text may have no log 1.
-fn may_end(place: Place, number: u64) -> bool {
-    number > 1 || matches!(place, Place::Log(1))
-}
-
 /// More than the calls at any place of any run.
 const MANY: u64 = 1000;
 
@@ -65,7 +60,8 @@ pub(crate) fn tell_failing(
 ) -> Result<(), Fail> {
     for number in 1..MANY {
         let ran = call(alloc, asked, Failing::at(place, number))?;
-        let has_ended = may_end(place, number) && ran.is_done() && ran.output() == whole.output();
+        // at each place the run makes a call
+        let has_ended = number > 1 && ran.is_done() && ran.output() == whole.output();
         let is_so = has_ended || is_cut_off(place, whole, &ran);
         if !is_left(alloc, place, asked, &ran)? || !is_so {
             told.push_str(&format!(in alloc; "{place:?} at call {number}; ")?)?;

@@ -12,9 +12,11 @@ pub(crate) enum Place {
 }
 
 /// All places.
-pub(crate) const PLACES: [Place; 5] = [
+pub(crate) const PLACES: [Place; 7] = [
     Place::Log(0),
     Place::Log(1),
+    Place::Log(2),
+    Place::Log(3),
     Place::Read,
     Place::Write,
     Place::Trace,
@@ -23,7 +25,7 @@ pub(crate) const PLACES: [Place; 5] = [
 /// The numbers, from 1 on, of the calls that fail; 0 is none.
 #[derive(Clone, Copy)]
 pub(crate) struct Failing {
-    pub(crate) logs: [u64; 2],
+    pub(crate) logs: [u64; 4],
     pub(crate) read: u64,
     pub(crate) write: u64,
     pub(crate) trace: u64,
@@ -31,7 +33,7 @@ pub(crate) struct Failing {
 
 /// None fails.
 pub(crate) const NONE: Failing = Failing {
-    logs: [0, 0],
+    logs: [0; 4],
     read: 0,
     write: 0,
     trace: 0,
@@ -43,7 +45,9 @@ impl Failing {
         let mut failing = NONE;
         match place {
             Place::Log(0) => failing.logs[0] = call,
-            Place::Log(_) => failing.logs[1] = call,
+            Place::Log(1) => failing.logs[1] = call,
+            Place::Log(2) => failing.logs[2] = call,
+            Place::Log(_) => failing.logs[3] = call,
             Place::Read => failing.read = call,
             Place::Write => failing.write = call,
             Place::Trace => failing.trace = call,
@@ -55,7 +59,7 @@ impl Failing {
     pub(crate) fn of(asked: &str) -> Failing {
         let numbers = part(asked, '|', 1);
         Failing {
-            logs: [number_at(numbers, 0), number_at(numbers, 1)],
+            logs: [number_at(numbers, 0), number_at(numbers, 1), 0, 0],
             read: number_at(numbers, 2),
             write: number_at(numbers, 3),
             trace: number_at(numbers, 4),

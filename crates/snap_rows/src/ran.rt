@@ -12,10 +12,13 @@ use snap_run::{Outcome, run_solo};
 use std::alloc::Global;
 use std::test::Fail;
 
+/// What opening makes of an empty file.
+const NEW_LOG: &str = "=SNAPLOG2\0";
+
 /// The logs that a row asks for, of which these calls fail.
-fn logs_of(alloc: Global, asked: &str, calls: [u64; 2]) -> Result<Vec<MemLog>, Memory> {
+pub(crate) fn logs_of(alloc: Global, asked: &str, calls: [u64; 4]) -> Result<Vec<MemLog>, Memory> {
     let mut logs = Vec::new(alloc);
-    for (number, call) in [calls[0], calls[1], 0, 0].iter().enumerate() {
+    for (number, call) in calls.iter().enumerate() {
         let word = part(asked, '|', number + 2);
         let bytes = log_bytes(alloc, word)?;
         logs.push(MemLog::new(alloc, bytes, vec![in alloc; *call]?)?)?;
@@ -78,7 +81,7 @@ pub(crate) fn call(alloc: Global, asked: &str, failing: Failing) -> Result<Ran, 
     }
     let text = text_of(alloc, name)?;
     let word = match name {
-        "recover" | "migrate" => name,
+        "recover" | "migrate" | "compact" => name,
         _ => "run",
     };
     perform_on(alloc, word, text.as_str(), logs, failing)
@@ -136,7 +139,12 @@ impl Ran {
         for (number, log) in self.0.logs.iter().enumerate() {
             let after = part(left, '|', number);
             let before = part(asked, '|', number + 2);
-            let word = if after.is_empty() { before } else { after };
+            let is_new = before.is_empty() && !log.ops().is_empty();
+            let word = match (after.is_empty(), is_new) {
+                (false, _) => after,
+                (true, true) => NEW_LOG,
+                (true, false) => before,
+            };
             let bytes = log_bytes(alloc, word)?;
             if log.bytes() != bytes.as_slice() {
                 return Ok(false);

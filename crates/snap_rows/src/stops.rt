@@ -66,7 +66,7 @@ fn lines_of(alloc: Global, events: &[Event], output: &str) -> Result<String, Mem
 }
 
 /// What a crash may leave of the log, without those choices that leave what the first one does.
-fn choices_of(alloc: Global, log: &MemLog, count: usize) -> Result<Vec<u8>, Memory> {
+pub(crate) fn choices_of(alloc: Global, log: &MemLog, count: usize) -> Result<Vec<u8>, Memory> {
     let mut choices = Vec::new(alloc);
     let count = count.min(log.ops().len());
     let first = log.image(alloc, count, CHOICES[0])?;
@@ -147,11 +147,11 @@ pub(crate) fn tell_moments(
 ) -> Result<(), Fail> {
     let kept = whole.0.kept.as_slice();
     let has_two = match whole.0.logs.get(1) {
-        Some(log) => !log.ops().is_empty(),
+        Some(log) => log.ops().len() > OPENING,
         None => false,
     };
-    for (log, number) in whole.0.logs.iter().zip(0..2) {
-        if (number == 0 || has_two) && log.ops().len() != done_by(kept, number) {
+    for (log, number) in whole.0.logs.iter().zip(0..4) {
+        if log.ops().len() != done_by(kept, number) {
             told.push_str("other operations; ")?;
         }
     }
