@@ -1,5 +1,5 @@
 -- What lists fold to is begun by one Genesis, and has states, one for each actor.
-use Rattle.std.proofs.Common.{◌≡◌, ℕ, ◌+◌, ◌≤◌, inl, inr, List, [], ◌∷◌, ◌++◌, length, refl, sym, ap, subst, ◌∙◌, arith, filter, Some}
+use Rattle.std.proofs.Common.{◌≡◌, ℕ, ◌≤◌, inl, inr, List, [], ◌∷◌, ◌++◌, length, refl, sym, ap, subst, ◌∙◌, arith, filter, Some}
 use Rattle.std.specs.List.{AllByRecursion}
 use Rattle.snap_base.specs.declared.transactions.State.{State}
 use Rattle.txn_records.specs.declared.limits.TheConstants.{MOST_LISTED}
@@ -7,12 +7,11 @@ use Rattle.txn_records.specs.declared.records.Record.{Record}
 use Rattle.txn_records.specs.declared.records.Record.TheVariants.{Genesis, Checkpoint}
 use Rattle.txn_records.specs.Records.{IsRecord, IsState}
 use Rattle.snap_recover.specs.declared.openings.Opening.{Opening}
-use Rattle.snap_recover.specs.Logs.{all_of, is_genesis, geneses}
+use Rattle.snap_recover.specs.Logs.{all_of, is_genesis}
 use Rattle.snap_recover.specs.Opening.{IsRecovered}
-use Rattle.log_compact.specs.declared.folds.Folded.{Folded}
 use Rattle.log_compact.specs.Folds.{FoldsAreOfRecords, FoldsAreBegun, PlainListsFold, BegunListsFold}
 use Rattle.log_compact.specs.Points.{Point, point_told, IsPlain}
-use Rattle.log_compact.specs.Sets.{states_at, HasNoStray, IsFirstList, IsPointInRange, OfPoint, plain_lists, number_of, IsFolded}
+use Rattle.log_compact.specs.Sets.{HasNoStray, IsFirstList, IsPointInRange, OfPoint, plain_lists, number_of}
 use Rattle.log_compact.proofs.FoldShapes.{Shape, shape}
 use Rattle.log_compact.proofs.Moments.{Begun}
 use Rattle.log_compact.proofs.OneGenesis.{one_of, first_is, as_many_in}

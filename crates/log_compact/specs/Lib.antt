@@ -1,6 +1,7 @@
 pub mod Points
 pub mod Sets
 pub mod Finding
+pub mod Counts
 pub mod Folds
 pub mod Fronts
 pub mod Compacting

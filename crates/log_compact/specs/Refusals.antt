@@ -5,6 +5,8 @@ use Rattle.txn_records.specs.declared.keys.Key.TheVariants as keys
 use Rattle.txn_records.specs.declared.records.Record.{Record}
 use Rattle.snap_recover.specs.declared.refusals.RecoverNo.TheVariants as recovery
 use Rattle.snap_recover.specs.Refusals.{IsRefused}
+use Rattle.log_compact.specs.declared.refusals.CheckpointNo.{CheckpointNo}
+use Rattle.log_compact.specs.declared.refusals.CheckpointNo.TheVariants as checkpoint
 use Rattle.log_compact.specs.declared.refusals.FoldNo.{FoldNo}
 use Rattle.log_compact.specs.declared.refusals.FoldNo.TheVariants.{Stray, Range, Recover, Memory}
 use Rattle.log_compact.specs.Points.{IsPlain}
@@ -28,3 +30,13 @@ IsNotFolded lists (Range k log) = HasNoStray lists × (k ≡ keys.Checkpoint) ×
 IsNotFolded lists (Recover why) =
     HasNoStray lists × OfPoint IsPointInRange (point_of lists) × (why ≢ recovery.Memory) × IsRefused (plain_lists lists) why
 IsNotFolded lists Memory = ⊤
+
+-- ---- the checkpoint alone
+
+-- what the lists are refused with where their checkpoint is
+abbrev pub fold_no : CheckpointNo → FoldNo
+fold_no (checkpoint.Stray log) = Stray log
+fold_no checkpoint.Range = Range keys.Checkpoint 0
+
+abbrev pub IsCheckpointRefused : List (List Record) → CheckpointNo → Type 0
+IsCheckpointRefused lists why = IsNotFolded lists (fold_no why)

@@ -5,16 +5,16 @@ ghost use Rattle.log_compact.specs.Refusals.{IsNotFolded};
 ghost use Rattle.log_compact.specs.Sets.{HasNoStray, IsFolded, IsPointInRange, OfPoint, point_of};
 ghost use Rattle.log_compact.specs.Stripping.{IsJoined, first_with};
 
+use crate::checkpoints::checkpoint_no;
 use crate::folds::Folded;
-use crate::numbers::{acts_in, batches_in, is_in_range};
+use crate::numbers::{acts_in, batches_in};
 use crate::refusals::FoldNo;
-use crate::strays::first_stray;
 use crate::stripping::{Stripped, Told, strip_lists};
 use snap_base::{Bid, Memory, Sequence, State, Tid};
 use snap_recover::{Opening, first_genesis, recover};
 use std::alloc::Global;
 use std::mem;
-use txn_records::{Key, Record};
+use txn_records::Record;
 
 /// What the logs in use fold to. Genesis gets the checkpoint's states, and the checkpoint is left out; what these lists recover to
 /// gets the greater next numbers, and the checkpoint's counts are added to what is committed. A refusal names a log by a byte, so
@@ -23,14 +23,8 @@ pub fn fold(alloc: Global, lists: Sequence<Sequence<Record>>) -> Result<Folded, 
     requires few { length lists ≤ 256 }
     ensures { MatchResult result (λ f. IsFolded lists f) (λ no. IsNotFolded lists no) }
 {
-    if let Some(at) = first_stray(lists.as_slice()) {
-        return Err(FoldNo::Stray { log: at as u8 });
-    }
-    if !is_in_range(lists.as_slice()) {
-        return Err(FoldNo::Range {
-            key: Key::Checkpoint,
-            log: 0,
-        });
+    if let Some(no) = checkpoint_no(lists.as_slice()) {
+        return Err(FoldNo::from(no));
     }
     fold_fit(alloc, lists)
 }

@@ -2,6 +2,7 @@
 //! leaves while these are compacted (`specs/Compacting.antt`).
 #![tactic(auto)]
 
+mod checkpoints;
 mod finding;
 mod fold_laws;
 mod folding;
@@ -15,6 +16,7 @@ mod sides;
 mod strays;
 mod stripping;
 
+pub use checkpoints::{Counts, checkpoint_no, counts_before, counts_with};
 pub use finding::find;
 pub use fold_laws::{
     begun_lists_fold, folds_are_begun, folds_are_of_records, one_fold, one_fold_refusal,
@@ -27,6 +29,6 @@ pub use laws::{
     clearing_keeps, compacting_ends, compacting_keeps, crashed_compaction_folds,
     images_hold_moments, one_set,
 };
-pub use refusals::FoldNo;
+pub use refusals::{CheckpointNo, FoldNo};
 pub use set_laws::{begun_is_set, fronts_of_records, fronts_tell, one_front, one_use};
 pub use sides::clear_side;

@@ -136,6 +136,7 @@ IsFoldCause logs log cause.Damage = ⊥
 IsFoldCause logs log cause.OldFormat = ⊥
 IsFoldCause logs log cause.BadRecord = ⊥
 IsFoldCause logs log cause.Stray = IsNotFolded logs (fold.Stray log)
+IsFoldCause logs log cause.Back = ⊥
 IsFoldCause logs log cause.NoGenesis = (log ≡ 0) × IsNotFolded logs (fold.Recover recover.NoGenesis)
 IsFoldCause logs log cause.TwoGenesis = (log ≡ 0) × IsNotFolded logs (fold.Recover recover.TwoGenesis)
 IsFoldCause logs log (cause.LogCount kept found) = (log ≡ 0) × IsNotFolded logs (fold.Recover (recover.LogCount kept found))

@@ -33,7 +33,7 @@ pub fn read_log(alloc: Global, items: &[LogItem], log: u8) -> Result<Sequence<Re
 
 /// The records of the logs in use, in which these items were found, and the first of which lies on this device. The logs are decoded in
 /// their order; `BadRecord` names the first one that holds an item that is no record.
-pub(crate) fn read_logs(
+pub fn read_logs(
     alloc: Global,
     found: &[Sequence<LogItem>],
     head: u8,

@@ -14,7 +14,7 @@ mod refusals;
 mod upgrades;
 
 pub use counted::open_and_decode;
-pub use decoding::{fold_records, read_log};
+pub use decoding::{fold_records, read_log, read_logs};
 pub use laws::no_call_is_safe;
 pub use log_compact::{Folded, Found};
 pub use openings::{OpenLogs, close, no_logs, open_logs};

@@ -79,6 +79,7 @@ not_refused laws logs f log cause.Damage on x = x
 not_refused laws logs f log cause.OldFormat on x = x
 not_refused laws logs f log cause.BadRecord on x = x
 not_refused laws logs f log cause.Stray on x = laws.never_both logs (fold.Stray log) f (λ e. cc) x on
+not_refused laws logs f log cause.Back on x = x
 not_refused laws logs f log cause.NoGenesis on x = laws.never_both logs (fold.Recover recover.NoGenesis) f (λ e. cc) x.1 on
 not_refused laws logs f log cause.TwoGenesis on x = laws.never_both logs (fold.Recover recover.TwoGenesis) f (λ e. cc) x.1 on
 not_refused laws logs f log (cause.LogCount kept found) on x = laws.never_both logs (fold.Recover (recover.LogCount kept found)) f (λ e. cc) x.1 on
@@ -99,6 +100,7 @@ no_cause laws logs states o log cause.NotALog on x = x
 no_cause laws logs states o log cause.Damage on x = x
 no_cause laws logs states o log cause.OldFormat on x = x
 no_cause laws logs states o log cause.BadRecord on x = x
+no_cause laws logs states o log cause.Back on x = x
 no_cause laws logs states o log cause.Stray on x = not_refused laws logs on.folded.0 log cause.Stray on.folded.1 x
 no_cause laws logs states o log cause.NoGenesis on x = not_refused laws logs on.folded.0 log cause.NoGenesis on.folded.1 x
 no_cause laws logs states o log cause.TwoGenesis on x = not_refused laws logs on.folded.0 log cause.TwoGenesis on.folded.1 x
@@ -273,6 +275,7 @@ module _ (laws : Laws) (count : ℕ) (states : List State) (before after : List 
       absurd (decodes laws (device_at before log) bad.bad.1 (records_at records (length bad.below)) bad.bad.0 offset bad.bad.2 here bad.bad.3 bad.bad.4)
   read_well (ending.Refused log offset (cause.LogCount k f)) why = absurd (why.1.other (sym (same_used log k why.1.generation why.1.used).1))
   read_well (ending.Refused log offset cause.Stray) why = absurd why
+  read_well (ending.Refused log offset cause.Back) why = absurd why
   read_well (ending.Refused log offset cause.NoGenesis) why = absurd why
   read_well (ending.Refused log offset cause.TwoGenesis) why = absurd why
   read_well (ending.Refused log offset (cause.Range k)) why = absurd why

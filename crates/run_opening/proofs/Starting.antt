@@ -82,6 +82,7 @@ no_fold head logs states (ending.Refused log offset cause.Damage) some why = abs
 no_fold head logs states (ending.Refused log offset cause.OldFormat) some why = absurd why.1.2
 no_fold head logs states (ending.Refused log offset cause.BadRecord) some why = absurd why.1.2
 no_fold head logs states (ending.Refused log offset cause.Stray) some why = (why.0, some, why.1)
+no_fold head logs states (ending.Refused log offset cause.Back) some why = absurd why.1.2
 no_fold head logs states (ending.Refused log offset cause.NoGenesis) some why = (why.0, some, why.1)
 no_fold head logs states (ending.Refused log offset cause.TwoGenesis) some why = (why.0, some, why.1)
 no_fold head logs states (ending.Refused log offset (cause.LogCount k f)) some why = (why.0, some, why.1)

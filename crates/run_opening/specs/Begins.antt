@@ -79,6 +79,7 @@ IsCause logs states log cause.NotALog = ⊥
 IsCause logs states log cause.Damage = ⊥
 IsCause logs states log cause.OldFormat = ⊥
 IsCause logs states log cause.BadRecord = ⊥
+IsCause logs states log cause.Back = ⊥
 IsCause logs states log cause.Stray = IsFoldCause logs log cause.Stray
 IsCause logs states log cause.NoGenesis = IsFoldCause logs log cause.NoGenesis
 IsCause logs states log cause.TwoGenesis = IsFoldCause logs log cause.TwoGenesis

@@ -9,8 +9,8 @@ use Rattle.snap_recover.specs.declared.ranges.TheConstants.{GREATEST_NUMBER}
 use Rattle.snap_recover.specs.declared.refusals.RecoverNo.TheVariants.{NoGenesis, TwoGenesis, LogCount, Range, Missing, Values, Memory}
 use Rattle.snap_recover.specs.Logs.{all_of, bids_in, tids_in, commits_in, geneses}
 use Rattle.snap_recover.specs.Opening.{IsInRange, AreBegunWith, greatest}
-use Rattle.snap_recover.specs.Refusals.{IsRefused}
-use Rattle.snap_recover.specs.Passes.{IsFirstLackOf, IsFirstValuesLackOf, IsLackOfBegun, IsAllWhole}
+use Rattle.snap_recover.specs.Refusals.{IsLack, IsNotBegun, IsRefused}
+use Rattle.snap_recover.specs.Passes.{IsFirstLackOf, IsFirstValuesLackOf, IsAllWhole}
 use Rattle.snap_recover.proofs.Greatest.{numbers_within}
 
 -- the numbers of one kind in records that are in range
@@ -40,29 +40,38 @@ pub only_one : (logs : List (List Record)) (g : Record) (rest : List Record) (co
 only_one logs g [] count e c n = e
 only_one logs g (s ∷ rest) count e c n = absurd (let size = ap (λ (z : List Record). length z) e in omega (arith, size, c, n))
 
-pub begun_lack : (logs : List (List Record)) (answer : RecoverNo) → IsFirstLackOf logs answer → IsLackOfBegun logs answer
-begun_lack logs NoGenesis h = h
-begun_lack logs TwoGenesis h = h
-begun_lack logs (LogCount c f) h = h
-begun_lack logs (Range k l) h = h
-begun_lack logs (Missing k l) h = h
-begun_lack logs (Values k l u v) h = absurd h
-begun_lack logs Memory h = tt
+pub first_lack : (logs : List (List Record)) (answer : RecoverNo) → IsFirstLackOf logs answer → IsLack logs answer
+first_lack logs NoGenesis h = h
+first_lack logs TwoGenesis h = h
+first_lack logs (LogCount c f) h = h
+first_lack logs (Range k l) h = h
+first_lack logs (Missing k l) h = h
+first_lack logs (Values k l u v) h = absurd h
+first_lack logs Memory h = tt
 
-pub begun_values_lack : (logs : List (List Record)) (answer : RecoverNo) → IsAllWhole logs → IsFirstValuesLackOf logs answer → IsLackOfBegun logs answer
-begun_values_lack logs NoGenesis w h = h
-begun_values_lack logs TwoGenesis w h = h
-begun_values_lack logs (LogCount c f) w h = h
-begun_values_lack logs (Range k l) w h = h
-begun_values_lack logs (Missing k l) w h = absurd h
-begun_values_lack logs (Values k l u v) w h = (w, h)
-begun_values_lack logs Memory w h = tt
+pub first_values_lack : (logs : List (List Record)) (answer : RecoverNo) → IsAllWhole logs → IsFirstValuesLackOf logs answer → IsLack logs answer
+first_values_lack logs NoGenesis w h = h
+first_values_lack logs TwoGenesis w h = h
+first_values_lack logs (LogCount c f) w h = h
+first_values_lack logs (Range k l) w h = h
+first_values_lack logs (Missing k l) w h = absurd h
+first_values_lack logs (Values k l u v) w h = ((w.batches, w.acts), h)
+first_values_lack logs Memory w h = tt
 
-pub lack_is_refused : (logs : List (List Record)) (first : List State) (answer : RecoverNo) → AreBegunWith logs first → IsLackOfBegun logs answer → IsRefused logs answer
+pub lack_is_refused : (logs : List (List Record)) (first : List State) (answer : RecoverNo) → AreBegunWith logs first → IsLack logs answer → IsRefused logs answer
 lack_is_refused logs first NoGenesis b h = absurd h
 lack_is_refused logs first TwoGenesis b h = absurd h
 lack_is_refused logs first (LogCount c f) b h = absurd h
 lack_is_refused logs first (Range k l) b h = absurd h
 lack_is_refused logs first (Missing k l) b h = (first, b, h)
-lack_is_refused logs first (Values k l u v) b h = (first, b, (h.0.batches, h.0.acts), h.1)
+lack_is_refused logs first (Values k l u v) b h = (first, b, h.0, h.1)
 lack_is_refused logs first Memory b h = tt
+
+pub unbegun_is_refused : (logs : List (List Record)) (answer : RecoverNo) → IsNotBegun logs answer → IsRefused logs answer
+unbegun_is_refused logs NoGenesis h = h
+unbegun_is_refused logs TwoGenesis h = h
+unbegun_is_refused logs (LogCount c f) h = h
+unbegun_is_refused logs (Range k l) h = h
+unbegun_is_refused logs (Missing k l) h = absurd h
+unbegun_is_refused logs (Values k l u v) h = absurd h
+unbegun_is_refused logs Memory h = absurd h

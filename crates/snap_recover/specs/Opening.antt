@@ -141,6 +141,13 @@ pub record IsCommitted (logs : List (List Record)) (committed : List Kept) : Typ
   pub all_batches : (bid : Bid) → IsIn logs bid → Contains (map commit_of committed) (keys.Commit bid)
   pub all_acts : (tid : Tid) → IsActIn logs tid → Contains (map commit_of committed) (keys.Act tid)
 
+-- nothing is lacking of what is committed, and it is this
+pub record AreWhollyCommitted (logs : List (List Record)) (kept : List Kept) : Type 0 where
+  pub whole : (bid : Bid) → IsIn logs bid → IsBatchWhole logs bid
+  pub acts_whole : (tid : Tid) → IsActIn logs tid → IsActWhole logs tid
+  pub valued : (bid : Bid) → IsIn logs bid → HasItsValues logs bid
+  pub committed : IsCommitted logs kept
+
 -- ---- next numbers
 
 -- one above all numbers that occur, and at least 1

@@ -233,16 +233,6 @@ IsFirstValuesLackOf logs Memory = ⊤
 abbrev pub AllValued : List (List Record) → Type 0
 AllValued logs = (n : ℕ) → HasKey (log_of logs n) (commit_key kinds.Batch n) → HasItsValues logs (bid_at n)
 
--- the answer tells what the logs lack, where they are begun
-abbrev pub IsLackOfBegun : List (List Record) → RecoverNo → Type 0
-IsLackOfBegun logs NoGenesis = ⊥
-IsLackOfBegun logs TwoGenesis = ⊥
-IsLackOfBegun logs (LogCount count found) = ⊥
-IsLackOfBegun logs (Range k log) = ⊥
-IsLackOfBegun logs (Missing k log) = IsFirstLacking logs k log
-IsLackOfBegun logs (Values k log count found) = IsAllWhole logs × IsFirstLackingValues logs k log count found
-IsLackOfBegun logs Memory = ⊤
-
 -- ---- the order of what is kept
 
 -- a batch number, 0 for a batch and 1 for an ACT behind it, the commit number, and the tid

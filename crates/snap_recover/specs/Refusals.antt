@@ -89,3 +89,25 @@ IsRefused logs (Missing k log) = (first : List State) × AreBegunWith logs first
 IsRefused logs (Values k log count found) =
     (first : List State) × AreBegunWith logs first × NoneMissing logs × IsFirstLackingValues logs k log count found
 IsRefused logs Memory = ⊤
+
+-- ---- its parts alone
+
+-- the logs are not begun: what is refused is their Genesis, or a number
+abbrev pub IsNotBegun : List (List Record) → RecoverNo → Type 0
+IsNotBegun logs NoGenesis = IsRefused logs NoGenesis
+IsNotBegun logs TwoGenesis = IsRefused logs TwoGenesis
+IsNotBegun logs (LogCount count found) = IsRefused logs (LogCount count found)
+IsNotBegun logs (Range k log) = IsRefused logs (Range k log)
+IsNotBegun logs (Missing k log) = ⊥
+IsNotBegun logs (Values k log count found) = ⊥
+IsNotBegun logs Memory = ⊥
+
+-- something is lacking of what is committed
+abbrev pub IsLack : List (List Record) → RecoverNo → Type 0
+IsLack logs NoGenesis = ⊥
+IsLack logs TwoGenesis = ⊥
+IsLack logs (LogCount count found) = ⊥
+IsLack logs (Range k log) = ⊥
+IsLack logs (Missing k log) = IsFirstLacking logs k log
+IsLack logs (Values k log count found) = NoneMissing logs × IsFirstLackingValues logs k log count found
+IsLack logs Memory = ⊤

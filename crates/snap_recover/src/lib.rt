@@ -28,5 +28,5 @@ pub use laws::{
 };
 pub use openings::{Kept, Opening, fresh};
 pub use ranges::GREATEST_NUMBER;
-pub use recovery::recover;
+pub use recovery::{committed, first_states, recover, replayed};
 pub use refusals::RecoverNo;

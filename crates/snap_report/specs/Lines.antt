@@ -124,6 +124,12 @@ migrated_text logs = codes "migrated " ++ (decimal logs ++ line_end)
 abbrev pub compacted_text : ℕ → List ℕ
 compacted_text generation = codes "compacted " ++ (decimal generation ++ line_end)
 
+-- ---- a follower
+
+-- how many batches and undeclared transactions a follower has taken in
+abbrev pub following_text : ℕ → ℕ → List ℕ
+following_text batches acts = codes "following batches " ++ (decimal batches ++ (codes " acts " ++ (decimal acts ++ line_end)))
+
 -- ---- the status
 
 -- the program's exit status
@@ -175,6 +181,7 @@ log_cause_text cause.Damage = codes "Damage"
 log_cause_text cause.OldFormat = codes "OldFormat"
 log_cause_text cause.BadRecord = codes "BadRecord"
 log_cause_text cause.Stray = codes "Stray"
+log_cause_text cause.Back = codes "Back"
 log_cause_text cause.NoGenesis = codes "NoGenesis"
 log_cause_text cause.TwoGenesis = codes "TwoGenesis"
 log_cause_text (cause.LogCount kept found) = codes "LogCount"

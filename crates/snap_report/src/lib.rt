@@ -9,8 +9,8 @@ mod summaries;
 
 pub use audit_faults::AuditFault;
 pub use lines::{
-    actor_line, compacted_line, end_line, kept_line, migrated_line, recovered_line, reply_line,
-    shown,
+    actor_line, compacted_line, end_line, following_line, kept_line, migrated_line, recovered_line,
+    reply_line, shown,
 };
 pub use snap_recover::{LogCause, What};
 pub use statuses::{Status, status_line};

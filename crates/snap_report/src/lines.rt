@@ -1,6 +1,6 @@
 //! The lines of replies, of actors, of a run's end, and of what logs recover to.
 ghost use Rattle.std.specs.Prelude.{◌≡◌, ◌<◌, ◌≤◌, IfOk, string_bytes, length, take};
-ghost use Rattle.snap_report.specs.Lines.{reply_text, actor_text, end_text, recovered_text, kept_text, migrated_text, compacted_text, shown_fields};
+ghost use Rattle.snap_report.specs.Lines.{reply_text, actor_text, end_text, recovered_text, kept_text, migrated_text, compacted_text, following_text, shown_fields};
 
 use snap_base::{ActorId, Memory, Place, State, TxNo, Verdict};
 use snap_recover::Opening;
@@ -87,4 +87,12 @@ pub fn compacted_line(alloc: Global, generation: u64) -> Result<String, Memory>
     ensures { IfOk result (λ s. string_bytes s ≡ compacted_text generation) }
 {
     Ok(format!(in alloc; "compacted {generation}\n")?)
+}
+
+/// The last line of a follower, behind the lines of the actors: how many batches and how many transactions outside of batches it has
+/// taken in, with those before a checkpoint.
+pub fn following_line(alloc: Global, batches: u64, acts: u64) -> Result<String, Memory>
+    ensures { IfOk result (λ s. string_bytes s ≡ following_text batches acts) }
+{
+    Ok(format!(in alloc; "following batches {batches} acts {acts}\n")?)
 }

@@ -180,6 +180,7 @@ fn log_cause_name(cause: LogCause) -> &'static str
         LogCause::OldFormat => "OldFormat",
         LogCause::BadRecord => "BadRecord",
         LogCause::Stray => "Stray",
+        LogCause::Back => "Back",
         LogCause::NoGenesis => "NoGenesis",
         LogCause::TwoGenesis => "TwoGenesis",
         LogCause::LogCount { .. } => "LogCount",
