@@ -1,5 +1,8 @@
 //! Logs as bytes: what opening finds in each row, and what it refuses.
-use crate::logs::{ITEM, WITH_ITEM, append, grown, has_items, is_refused, open_bytes, open_image};
+use crate::logs::{
+    Answer, ITEM, WITH_ITEM, append, grown, has_items, is_refused, open_bytes, open_image,
+    read_bytes,
+};
 use gate_log::{Log, OpenNo};
 use snap_base::Memory;
 use snap_outside::MemLog;
@@ -31,7 +34,7 @@ pub fn first_group_is_written(alloc: Global) -> Result<bool, Memory> {
     Ok(is_so && hangs_on_its_gate(alloc, &dev)?)
 }
 
-/// Bytes, and the refusal that opening them gives; or, where there is none, the items that it finds.
+/// Bytes, and the refusal that opening and reading them gives; or, where there is none, the items that each finds.
 const OPENED: [(&'static [u8], Option<OpenNo>, &[&[u8]]); 17] = [
     (&WITH_ITEM, None, &[&ITEM]),
     // cut off, empty, as long as a new log, and a foreign file
@@ -105,6 +108,13 @@ const OPENED: [(&'static [u8], Option<OpenNo>, &[&[u8]]); 17] = [
     ),
 ];
 
+fn answers_so(answer: &Answer, no: Option<OpenNo>, items: &[&[u8]]) -> bool {
+    match no {
+        Some(no) => is_refused(answer, no),
+        None => has_items(answer, items),
+    }
+}
+
 fn opens_so(
     alloc: Global,
     bytes: &[u8],
@@ -112,10 +122,8 @@ fn opens_so(
     items: &[&[u8]],
 ) -> Result<bool, Memory> {
     let opened = open_bytes(alloc, bytes.to_vec(alloc)?)?;
-    Ok(match no {
-        Some(no) => is_refused(&opened, no),
-        None => has_items(&opened, items),
-    })
+    let read = read_bytes(alloc, bytes.to_vec(alloc)?)?;
+    Ok(answers_so(&opened, no, items) && answers_so(&read, no, items))
 }
 
 /// The first of these bytes that are opened otherwise, if there are such.

@@ -1,5 +1,6 @@
 //! Logs in memory that the rows open, append to and cut off.
 use gate_log::{AppendNo, Log, LogItem, OpenNo};
+use log_reading::read_items;
 use snap_base::{Memory, Sequence};
 use snap_outside::MemLog;
 use std::alloc::Global;
@@ -10,7 +11,7 @@ pub const ITEM: [u8; 9] = [4, 0, 0, 0, 0, 0, 0, 0, 1];
 /// A new log with this item appended.
 pub const WITH_ITEM: [u8; 25] = *b"SNAPLOG2\x01\0\0\0\x0b\0\x09\x04\0\0\0\0\0\0\0\x01\0";
 
-/// What opening a device answers.
+/// What opening a device, or reading its log, answers.
 #[derive(Drop)]
 pub enum Answer {
     /// The found items.
@@ -24,6 +25,15 @@ pub fn open_bytes(alloc: Global, bytes: Vec<u8>) -> Result<Answer, Memory> {
     Ok(match Log::open(alloc, dev) {
         Ok(log) => Answer::Found(found_in(log)),
         Err((_dev, no)) => Answer::Refused(no),
+    })
+}
+
+/// Reads a log over these bytes.
+pub fn read_bytes(alloc: Global, bytes: Vec<u8>) -> Result<Answer, Memory> {
+    let mut dev = MemLog::new(alloc, bytes, Vec::new(alloc))?;
+    Ok(match read_items(alloc, &mut dev) {
+        Ok(items) => Answer::Found(Sequence::from_vec(items)),
+        Err(no) => Answer::Refused(no),
     })
 }
 
