@@ -1,0 +1,9 @@
+mod Behind
+mod Found
+mod Fronts
+mod Keys
+mod LaterReads
+mod Rounds
+mod Unrefused
+mod Whole
+mod Written

@@ -1,0 +1,25 @@
+//! The laws. `C` is the type of controls.
+
+ghost use Rattle.followed_logs.specs.OnRecords.{FollowersAreNotRefused, FollowersTellSerialStates};
+
+use followed_runs::{followers_go_on_behind_runs, records_are_read_once};
+use recovery_laws::logs_recover_from_greater_numbers;
+use snap_recover::begun_logs_are_recovered;
+
+/// Of runs one behind the other, whatever the rounds of a follower find on their devices, and when, where nothing that was read is
+/// lost: its members are closed and serial, run behind run, nobody is lost, and its states are those that they leave.
+pub fn followers_tell_serial_states<C>()
+    ensures { FollowersTellSerialStates C }
+{
+    followers_go_on_behind_runs::<C>();
+}
+
+/// And whatever it finds next, a round over it is refused for want of memory alone.
+pub fn followers_are_not_refused<C>()
+    ensures { FollowersAreNotRefused C }
+{
+    followers_go_on_behind_runs::<C>();
+    records_are_read_once::<C>();
+    logs_recover_from_greater_numbers::<C>();
+    begun_logs_are_recovered();
+}
