@@ -1,0 +1,9 @@
+pub mod WhatIsRead
+pub mod RoundsMade
+pub mod Begun
+pub mod Named
+pub mod Refused
+pub mod Since
+pub mod NeverRefused
+pub mod Going
+pub mod OneDevice
