@@ -32,8 +32,8 @@ use Rattle.run_work.specs.protocol.Runs.{IsRun}
 use Rattle.run_work.specs.run_effects.Lines.{report_text}
 use Rattle.snap_report.specs.declared.statuses.Status.{Status}
 use Rattle.snap_report.specs.declared.statuses.Status.TheVariants as status
-use Rattle.snap_run.proofs.Outcomes.{not_both, run_not_gen, run_not_bench, run_not_migrate, run_not_compact, run_not_audit}
-use Rattle.snap_run.specs.Answers.{IsAnswer, ran, recovered, generated, measured, migrated, compacted, audited, refused, IsInputAnswer, input_refused, input_memory, input_read_fault, IsRunAnswer, ran_of, schedule_asked}
+use Rattle.snap_run.proofs.Outcomes.{not_both, run_not_gen, run_not_bench, run_not_migrate, run_not_compact, run_not_follow, run_not_audit}
+use Rattle.snap_run.specs.Answers.{IsAnswer, ran, recovered, generated, measured, migrated, compacted, followed, audited, refused, IsInputAnswer, input_refused, input_memory, input_read_fault, IsRunAnswer, ran_of, schedule_asked}
 use Rattle.snap_run.specs.Uses.{Reading, Use}
 use Rattle.snap_work.specs.Works.{Work}
 use Rattle.trace_text.specs.Lines.{IsEvent, event_line}
@@ -175,5 +175,6 @@ module _ (one : OneCommand) (once : OneWork) (records : OneListOfRecords) (front
     in_order (measured count seed n bench _ _) = absurd (run_not_bench one u.words first.run.0 first.run.1 count seed n first.run.2 bench)
     in_order (migrated migrate _ _ _ _) = absurd (run_not_migrate one u.words first.run.0 first.run.1 first.run.2 migrate)
     in_order (compacted compact _ _ _ _) = absurd (run_not_compact one u.words first.run.0 first.run.1 first.run.2 compact)
+    in_order (followed j follow _ _ _ _) = absurd (run_not_follow one u.words first.run.0 first.run.1 j first.run.2 follow)
     in_order (audited audit _ _) = absurd (run_not_audit one u.words first.run.0 first.run.1 first.run.2 audit)
     in_order (refused place is _ _ _) = let e : status.Done ≡ status.Usage place = is in cc

@@ -78,5 +78,26 @@ migrate_compact e = let h : 109 ≡ 99 = letter 0 (codes "migrate") (codes "comp
 pub audit_compact : codes "audit" ≡ codes "compact" → ⊥
 audit_compact e = let h : 97 ≡ 99 = letter 0 (codes "audit") (codes "compact") e in omega (arith, h)
 
+pub run_follow : codes "run" ≡ codes "follow" → ⊥
+run_follow e = let h : 114 ≡ 102 = letter 0 (codes "run") (codes "follow") e in omega (arith, h)
+
+pub recover_follow : codes "recover" ≡ codes "follow" → ⊥
+recover_follow e = let h : 114 ≡ 102 = letter 0 (codes "recover") (codes "follow") e in omega (arith, h)
+
+pub gen_follow : codes "gen" ≡ codes "follow" → ⊥
+gen_follow e = let h : 103 ≡ 102 = letter 0 (codes "gen") (codes "follow") e in omega (arith, h)
+
+pub bench_follow : codes "bench" ≡ codes "follow" → ⊥
+bench_follow e = let h : 98 ≡ 102 = letter 0 (codes "bench") (codes "follow") e in omega (arith, h)
+
+pub migrate_follow : codes "migrate" ≡ codes "follow" → ⊥
+migrate_follow e = let h : 109 ≡ 102 = letter 0 (codes "migrate") (codes "follow") e in omega (arith, h)
+
+pub audit_follow : codes "audit" ≡ codes "follow" → ⊥
+audit_follow e = let h : 97 ≡ 102 = letter 0 (codes "audit") (codes "follow") e in omega (arith, h)
+
+pub compact_follow : codes "compact" ≡ codes "follow" → ⊥
+compact_follow e = let h : 99 ≡ 102 = letter 0 (codes "compact") (codes "follow") e in omega (arith, h)
+
 pub workers_seed : codes "--workers" ≡ codes "--seed" → ⊥
 workers_seed e = let h : 119 ≡ 115 = letter 2 (codes "--workers") (codes "--seed") e in omega (arith, h)

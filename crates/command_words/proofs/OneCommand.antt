@@ -3,11 +3,11 @@ use Rattle.std.proofs.Common.{◌≡◌, ℕ, ◌<◌, ◌≤◌, ◌^◌, List,
 use Rattle.std.specs.Prelude.{codes}
 use Rattle.std.specs.Fmt.{decimal}
 use Rattle.std.proofs.lemmas.Fmt.{decimal_injective}
-use Rattle.command_words.proofs.Names.{heads, tails, run_recover, run_gen, recover_gen, run_bench, recover_bench, gen_bench, run_migrate, recover_migrate, gen_migrate, bench_migrate, run_audit, recover_audit, migrate_audit, gen_audit, bench_audit, run_compact, recover_compact, migrate_compact, audit_compact, gen_compact, bench_compact, workers_seed}
+use Rattle.command_words.proofs.Names.{heads, tails, run_recover, run_gen, recover_gen, run_bench, recover_bench, gen_bench, run_migrate, recover_migrate, gen_migrate, bench_migrate, run_audit, recover_audit, migrate_audit, gen_audit, bench_audit, run_compact, recover_compact, migrate_compact, audit_compact, gen_compact, bench_compact, run_follow, recover_follow, migrate_follow, compact_follow, audit_follow, gen_follow, bench_follow, workers_seed}
 use Rattle.command_words.specs.declared.commands.Command.{Command}
-use Rattle.command_words.specs.declared.commands.Command.TheVariants.{Run, Recover, Migrate, Compact, Audit, Gen, Bench}
+use Rattle.command_words.specs.declared.commands.Command.TheVariants.{Run, Recover, Migrate, Compact, Follow, Audit, Gen, Bench}
 use Rattle.command_words.specs.Commands.{IsCommand}
-use Rattle.command_words.specs.Words.{Said, nothing, workers, seed, workers_and_seed, seed_and_workers, options, with_workers, MaySay, AreLastWorkers, IsRunCommand, IsGen, IsBench}
+use Rattle.command_words.specs.Words.{Said, nothing, workers, seed, workers_and_seed, seed_and_workers, options, with_workers, MaySay, AreLastWorkers, IsRunCommand, IsFollow, IsGen, IsBench}
 
 -- the word at a place
 word : (k : ℕ) (xs ys : List (List ℕ)) → xs ≡ ys → get_or xs k [] ≡ get_or ys k []
@@ -88,6 +88,14 @@ one_bench words n s k m t l a b =
     let last : k ≡ l = last_workers a.0 b.0 k l (tails _ _ a.0 b.0 (tails _ _ (decimal s ∷ a.0) (decimal t ∷ b.0) (tails _ _ (decimal n ∷ decimal s ∷ a.0) (decimal m ∷ decimal t ∷ b.0) e))) a.2 b.2 in
     cc
 
+-- ---- `follow`
+
+one_follow : (words : List (List ℕ)) (n m : ℕ) → IsFollow words n → IsFollow words m → Follow n ≡ Follow m
+one_follow words n m a b =
+    let e : codes "follow" ∷ decimal n ∷ [] ≡ codes "follow" ∷ decimal m ∷ [] = sym a.0 ∙ b.0 in
+    let same : n ≡ m = decimal_injective n m (omega (arith, a.2)) (omega (arith, b.2)) (word 1 _ _ e) in
+    cc
+
 -- ---- all of them
 
 pub one_command_by : (words : List (List ℕ)) (a b : Command) → IsCommand words a → IsCommand words b → a ≡ b
@@ -95,6 +103,7 @@ one_command_by words (Run n s) (Run m t) a b = one_run words n s m t a b
 one_command_by words (Run n s) Recover a b = absurd (run_recover (same_first words _ _ _ _ a.1 b))
 one_command_by words (Run n s) Migrate a b = absurd (run_migrate (same_first words _ _ _ _ a.1 b))
 one_command_by words (Run n s) Compact a b = absurd (run_compact (same_first words _ _ _ _ a.1 b))
+one_command_by words (Run n s) (Follow j) a b = absurd (run_follow (same_first words _ _ _ _ a.1 b.0))
 one_command_by words (Run n s) Audit a b = absurd (run_audit (same_first words _ _ _ _ a.1 b))
 one_command_by words (Run n s) (Gen m t) a b = absurd (run_gen (same_first words _ _ _ _ a.1 b.0))
 one_command_by words (Run n s) (Bench m t l) a b = absurd (run_bench (same_first words _ _ _ _ a.1 b.1))
@@ -102,6 +111,7 @@ one_command_by words Recover (Run m t) a b = absurd (run_recover (same_first wor
 one_command_by words Recover Recover a b = refl
 one_command_by words Recover Migrate a b = absurd (recover_migrate (same_first words _ _ _ _ a b))
 one_command_by words Recover Compact a b = absurd (recover_compact (same_first words _ _ _ _ a b))
+one_command_by words Recover (Follow j) a b = absurd (recover_follow (same_first words _ _ _ _ a b.0))
 one_command_by words Recover Audit a b = absurd (recover_audit (same_first words _ _ _ _ a b))
 one_command_by words Recover (Gen m t) a b = absurd (recover_gen (same_first words _ _ _ _ a b.0))
 one_command_by words Recover (Bench m t l) a b = absurd (recover_bench (same_first words _ _ _ _ a b.1))
@@ -109,6 +119,7 @@ one_command_by words Migrate (Run m t) a b = absurd (run_migrate (same_first wor
 one_command_by words Migrate Recover a b = absurd (recover_migrate (same_first words _ _ _ _ b a))
 one_command_by words Migrate Migrate a b = refl
 one_command_by words Migrate Compact a b = absurd (migrate_compact (same_first words _ _ _ _ a b))
+one_command_by words Migrate (Follow j) a b = absurd (migrate_follow (same_first words _ _ _ _ a b.0))
 one_command_by words Migrate Audit a b = absurd (migrate_audit (same_first words _ _ _ _ a b))
 one_command_by words Migrate (Gen m t) a b = absurd (gen_migrate (same_first words _ _ _ _ b.0 a))
 one_command_by words Migrate (Bench m t l) a b = absurd (bench_migrate (same_first words _ _ _ _ b.1 a))
@@ -116,13 +127,23 @@ one_command_by words Compact (Run m t) a b = absurd (run_compact (same_first wor
 one_command_by words Compact Recover a b = absurd (recover_compact (same_first words _ _ _ _ b a))
 one_command_by words Compact Migrate a b = absurd (migrate_compact (same_first words _ _ _ _ b a))
 one_command_by words Compact Compact a b = refl
+one_command_by words Compact (Follow j) a b = absurd (compact_follow (same_first words _ _ _ _ a b.0))
 one_command_by words Compact Audit a b = absurd (audit_compact (same_first words _ _ _ _ b a))
 one_command_by words Compact (Gen m t) a b = absurd (gen_compact (same_first words _ _ _ _ b.0 a))
 one_command_by words Compact (Bench m t l) a b = absurd (bench_compact (same_first words _ _ _ _ b.1 a))
+one_command_by words (Follow i) (Run m t) a b = absurd (run_follow (same_first words _ _ _ _ b.1 a.0))
+one_command_by words (Follow i) Recover a b = absurd (recover_follow (same_first words _ _ _ _ b a.0))
+one_command_by words (Follow i) Migrate a b = absurd (migrate_follow (same_first words _ _ _ _ b a.0))
+one_command_by words (Follow i) Compact a b = absurd (compact_follow (same_first words _ _ _ _ b a.0))
+one_command_by words (Follow i) (Follow j) a b = one_follow words i j a b
+one_command_by words (Follow i) Audit a b = absurd (audit_follow (same_first words _ _ _ _ b a.0))
+one_command_by words (Follow i) (Gen m t) a b = absurd (gen_follow (same_first words _ _ _ _ b.0 a.0))
+one_command_by words (Follow i) (Bench m t l) a b = absurd (bench_follow (same_first words _ _ _ _ b.1 a.0))
 one_command_by words Audit (Run m t) a b = absurd (run_audit (same_first words _ _ _ _ b.1 a))
 one_command_by words Audit Recover a b = absurd (recover_audit (same_first words _ _ _ _ b a))
 one_command_by words Audit Migrate a b = absurd (migrate_audit (same_first words _ _ _ _ b a))
 one_command_by words Audit Compact a b = absurd (audit_compact (same_first words _ _ _ _ a b))
+one_command_by words Audit (Follow j) a b = absurd (audit_follow (same_first words _ _ _ _ a b.0))
 one_command_by words Audit Audit a b = refl
 one_command_by words Audit (Gen m t) a b = absurd (gen_audit (same_first words _ _ _ _ b.0 a))
 one_command_by words Audit (Bench m t l) a b = absurd (bench_audit (same_first words _ _ _ _ b.1 a))
@@ -130,6 +151,7 @@ one_command_by words (Gen n s) (Run m t) a b = absurd (run_gen (same_first words
 one_command_by words (Gen n s) Recover a b = absurd (recover_gen (same_first words _ _ _ _ b a.0))
 one_command_by words (Gen n s) Migrate a b = absurd (gen_migrate (same_first words _ _ _ _ a.0 b))
 one_command_by words (Gen n s) Compact a b = absurd (gen_compact (same_first words _ _ _ _ a.0 b))
+one_command_by words (Gen n s) (Follow j) a b = absurd (gen_follow (same_first words _ _ _ _ a.0 b.0))
 one_command_by words (Gen n s) Audit a b = absurd (gen_audit (same_first words _ _ _ _ a.0 b))
 one_command_by words (Gen n s) (Gen m t) a b = one_gen words n s m t a b
 one_command_by words (Gen n s) (Bench m t l) a b = absurd (gen_bench (same_first words _ _ _ _ a.0 b.1))
@@ -137,6 +159,7 @@ one_command_by words (Bench n s k) (Run m t) a b = absurd (run_bench (same_first
 one_command_by words (Bench n s k) Recover a b = absurd (recover_bench (same_first words _ _ _ _ b a.1))
 one_command_by words (Bench n s k) Migrate a b = absurd (bench_migrate (same_first words _ _ _ _ a.1 b))
 one_command_by words (Bench n s k) Compact a b = absurd (bench_compact (same_first words _ _ _ _ a.1 b))
+one_command_by words (Bench n s k) (Follow j) a b = absurd (bench_follow (same_first words _ _ _ _ a.1 b.0))
 one_command_by words (Bench n s k) Audit a b = absurd (bench_audit (same_first words _ _ _ _ a.1 b))
 one_command_by words (Bench n s k) (Gen m t) a b = absurd (gen_bench (same_first words _ _ _ _ b.0 a.1))
 one_command_by words (Bench n s k) (Bench m t l) a b = one_bench words n s k m t l a b

@@ -3,7 +3,7 @@ use Rattle.std.proofs.Common.{◌≡◌, ℕ, ◌<◌, ◌≤◌, ◌^◌, ◌�
 use Rattle.std.specs.Prelude.{codes}
 use Rattle.std.specs.Fmt.{decimal}
 use Rattle.std.proofs.lemmas.Fmt.{decimal_injective}
-use Rattle.command_words.proofs.Names.{heads, tails, run_recover, run_gen, run_bench, run_migrate, run_audit, run_compact, workers_seed}
+use Rattle.command_words.proofs.Names.{heads, tails, run_recover, run_gen, run_bench, run_migrate, run_audit, run_compact, run_follow, workers_seed}
 use Rattle.command_words.specs.Counts.{TakesCountAndSeed}
 use Rattle.command_words.specs.Words.{Said, nothing, workers, seed, workers_and_seed, seed_and_workers, options, with_workers, with_seed, MaySay, IsForm, BeginsForm, IsUsageFault}
 
@@ -11,7 +11,7 @@ use Rattle.command_words.specs.Words.{Said, nothing, workers, seed, workers_and_
 
 -- the names of the commands
 abbrev IsName : List ℕ → Type 0
-IsName w = (w ≡ codes "run") ⊎ ((w ≡ codes "recover") ⊎ (TakesCountAndSeed w ⊎ ((w ≡ codes "migrate") ⊎ ((w ≡ codes "audit") ⊎ (w ≡ codes "compact")))))
+IsName w = (w ≡ codes "run") ⊎ ((w ≡ codes "recover") ⊎ (TakesCountAndSeed w ⊎ ((w ≡ codes "migrate") ⊎ ((w ≡ codes "audit") ⊎ ((w ≡ codes "compact") ⊎ (w ≡ codes "follow"))))))
 
 first_of : (w : List ℕ) (ws : List (List ℕ)) → IsForm (w ∷ ws) → IsName w
 first_of w ws (inl (n, s, run)) = inl (heads w (codes "run") ws _ run.1)
@@ -20,7 +20,8 @@ first_of w ws (inr (inr (inl (count, s, gen)))) = inr (inr (inl (inl (heads w (c
 first_of w ws (inr (inr (inr (inl (count, s, n, bench))))) = inr (inr (inl (inr (heads w (codes "bench") ws _ bench.1))))
 first_of w ws (inr (inr (inr (inr (inl e))))) = inr (inr (inr (inl (heads w (codes "migrate") ws _ e))))
 first_of w ws (inr (inr (inr (inr (inr (inl e)))))) = inr (inr (inr (inr (inl (heads w (codes "audit") ws _ e)))))
-first_of w ws (inr (inr (inr (inr (inr (inr e)))))) = inr (inr (inr (inr (inr (heads w (codes "compact") ws _ e)))))
+first_of w ws (inr (inr (inr (inr (inr (inr (inl e))))))) = inr (inr (inr (inr (inr (inl (heads w (codes "compact") ws _ e))))))
+first_of w ws (inr (inr (inr (inr (inr (inr (inr (n, follow)))))))) = inr (inr (inr (inr (inr (inr (heads w (codes "follow") ws _ follow.0))))))
 
 run_form : IsForm (codes "run" ∷ [])
 run_form = inl (0, 0, (nothing, refl, (refl, refl), omega arith, omega arith))
@@ -37,11 +38,12 @@ no_words = record {
   no_form_of_none (inr (inr (inr (inl (count, s, n, bench))))) = let f : [] ≡ codes "bench" ∷ decimal count ∷ decimal s ∷ bench.0 = bench.1 in cc
   no_form_of_none (inr (inr (inr (inr (inl e))))) = cc
   no_form_of_none (inr (inr (inr (inr (inr (inl e)))))) = cc
-  no_form_of_none (inr (inr (inr (inr (inr (inr e)))))) = cc
+  no_form_of_none (inr (inr (inr (inr (inr (inr (inl e))))))) = cc
+  no_form_of_none (inr (inr (inr (inr (inr (inr (inr (n, follow)))))))) = let f : [] ≡ codes "follow" ∷ decimal n ∷ [] = follow.0 in cc
 
-pub first_wrong : (w : List ℕ) (ws : List (List ℕ)) → (w ≡ codes "run" → ⊥) → (w ≡ codes "recover" → ⊥) → (w ≡ codes "migrate" → ⊥) → (w ≡ codes "compact" → ⊥) → (w ≡ codes "audit" → ⊥) → (w ≡ codes "gen" → ⊥)
+pub first_wrong : (w : List ℕ) (ws : List (List ℕ)) → (w ≡ codes "run" → ⊥) → (w ≡ codes "recover" → ⊥) → (w ≡ codes "migrate" → ⊥) → (w ≡ codes "compact" → ⊥) → (w ≡ codes "follow" → ⊥) → (w ≡ codes "audit" → ⊥) → (w ≡ codes "gen" → ⊥)
     → (w ≡ codes "bench" → ⊥) → IsUsageFault (w ∷ ws) 0
-first_wrong w ws run recover migrate compact audit gen bench = record {
+first_wrong w ws run recover migrate compact follow audit gen bench = record {
   no_form = not_first ws;
   wrong = inr (omega arith, (codes "run" ∷ [], run_form), λ b. not_first b.0 b.1);
 } where
@@ -52,7 +54,8 @@ first_wrong w ws run recover migrate compact audit gen bench = record {
   not_name (inr (inr (inl (inr e)))) = bench e
   not_name (inr (inr (inr (inl e)))) = migrate e
   not_name (inr (inr (inr (inr (inl e))))) = audit e
-  not_name (inr (inr (inr (inr (inr e))))) = compact e
+  not_name (inr (inr (inr (inr (inr (inl e)))))) = compact e
+  not_name (inr (inr (inr (inr (inr (inr e)))))) = follow e
 
   not_first : (vs : List (List ℕ)) → IsForm (w ∷ vs) → ⊥
   not_first vs h = not_name (first_of w vs h)
@@ -70,7 +73,8 @@ behind_run ws (inr (inr (inl (count, s, gen)))) = absurd (run_gen (heads _ _ ws 
 behind_run ws (inr (inr (inr (inl (count, s, n, bench))))) = absurd (run_bench (heads _ _ ws _ bench.1))
 behind_run ws (inr (inr (inr (inr (inl e))))) = absurd (run_migrate (heads _ _ ws _ e))
 behind_run ws (inr (inr (inr (inr (inr (inl e)))))) = absurd (run_audit (heads _ _ ws _ e))
-behind_run ws (inr (inr (inr (inr (inr (inr e)))))) = absurd (run_compact (heads _ _ ws _ e))
+behind_run ws (inr (inr (inr (inr (inr (inr (inl e))))))) = absurd (run_compact (heads _ _ ws _ e))
+behind_run ws (inr (inr (inr (inr (inr (inr (inr (n, follow)))))))) = absurd (run_follow (heads _ _ ws _ follow.0))
 
 abbrev IsOption : List ℕ → Type 0
 IsOption w = (w ≡ codes "--workers") ⊎ (w ≡ codes "--seed")

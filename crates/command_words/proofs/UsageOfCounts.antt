@@ -2,7 +2,7 @@
 use Rattle.std.proofs.Common.{◌≡◌, ℕ, ◌<◌, ◌≤◌, ◌^◌, List, [], ◌∷◌, length, refl, sym, subst, inl, inr, arith}
 use Rattle.std.specs.Prelude.{codes}
 use Rattle.std.specs.Fmt.{decimal}
-use Rattle.command_words.proofs.Names.{heads, tails, run_gen, recover_gen, run_bench, recover_bench, gen_bench, gen_migrate, bench_migrate, gen_audit, bench_audit, gen_compact, bench_compact}
+use Rattle.command_words.proofs.Names.{heads, tails, run_gen, recover_gen, run_bench, recover_bench, gen_bench, gen_migrate, bench_migrate, gen_audit, bench_audit, gen_compact, bench_compact, gen_follow, bench_follow}
 use Rattle.command_words.specs.Counts.{TakesCountAndSeed}
 use Rattle.command_words.specs.Words.{with_workers, AreLastWorkers, IsForm, BeginsForm, IsUsageFault}
 
@@ -15,7 +15,8 @@ behind_gen ws (inr (inr (inl (count, s, gen)))) = (count, s, tails _ _ ws _ gen.
 behind_gen ws (inr (inr (inr (inl (count, s, n, bench))))) = absurd (gen_bench (heads _ _ ws _ bench.1))
 behind_gen ws (inr (inr (inr (inr (inl e))))) = absurd (gen_migrate (heads _ _ ws _ e))
 behind_gen ws (inr (inr (inr (inr (inr (inl e)))))) = absurd (gen_audit (heads _ _ ws _ e))
-behind_gen ws (inr (inr (inr (inr (inr (inr e)))))) = absurd (gen_compact (heads _ _ ws _ e))
+behind_gen ws (inr (inr (inr (inr (inr (inr (inl e))))))) = absurd (gen_compact (heads _ _ ws _ e))
+behind_gen ws (inr (inr (inr (inr (inr (inr (inr (n, follow)))))))) = absurd (gen_follow (heads _ _ ws _ follow.0))
 
 abbrev AreBenched : List (List ℕ) → Type 0
 AreBenched ws = (count s n : ℕ) × (last : List (List ℕ)) × (ws ≡ decimal count ∷ decimal s ∷ last) × AreLastWorkers last n × (count ≤ 20000) × (s < 2 ^ 64)
@@ -27,7 +28,8 @@ behind_bench ws (inr (inr (inl (count, s, gen)))) = absurd (gen_bench (sym (head
 behind_bench ws (inr (inr (inr (inl (count, s, n, bench))))) = (count, s, n, bench.0, tails _ _ ws _ bench.1, bench.2, bench.3, bench.4)
 behind_bench ws (inr (inr (inr (inr (inl e))))) = absurd (bench_migrate (heads _ _ ws _ e))
 behind_bench ws (inr (inr (inr (inr (inr (inl e)))))) = absurd (bench_audit (heads _ _ ws _ e))
-behind_bench ws (inr (inr (inr (inr (inr (inr e)))))) = absurd (bench_compact (heads _ _ ws _ e))
+behind_bench ws (inr (inr (inr (inr (inr (inr (inl e))))))) = absurd (bench_compact (heads _ _ ws _ e))
+behind_bench ws (inr (inr (inr (inr (inr (inr (inr (n, follow)))))))) = absurd (bench_follow (heads _ _ ws _ follow.0))
 
 -- a count and a seed, and more
 abbrev AreCounted : List (List ℕ) → Type 0

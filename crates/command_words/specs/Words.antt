@@ -1,6 +1,7 @@
 -- The words of the command line: which lists of them are a form, and which word is the first wrong one.
 use Rattle.std.specs.Prelude.{◌≡◌, ℕ, ◌+◌, ◌<◌, ◌≤◌, ◌^◌, ◌⊎◌, List, [], ◌∷◌, ◌++◌, length, take, codes}
 use Rattle.std.specs.Fmt.{decimal}
+use Rattle.command_words.specs.declared.limits.TheConstants.{FEWEST_ROUNDS, MOST_ROUNDS}
 use Rattle.snap_work.specs.declared.limits.TheConstants.{MOST_TRANSACTIONS, MOST_WORKERS}
 
 -- ---- options
@@ -54,6 +55,10 @@ IsMigrate words = words ≡ codes "migrate" ∷ []
 abbrev pub IsCompact : List (List ℕ) → Type 0
 IsCompact words = words ≡ codes "compact" ∷ []
 
+-- reads the logs so many times, and prints what a follower of them has then
+abbrev pub IsFollow : List (List ℕ) → ℕ → Type 0
+IsFollow words n = (words ≡ codes "follow" ∷ decimal n ∷ []) × (FEWEST_ROUNDS ≤ n) × (n ≤ MOST_ROUNDS)
+
 -- says whether the input is the papers of a run
 abbrev pub IsAudit : List (List ℕ) → Type 0
 IsAudit words = words ≡ codes "audit" ∷ []
@@ -74,7 +79,8 @@ IsBench words count s n =
 abbrev pub IsForm : List (List ℕ) → Type 0
 IsForm words =
     ((n s : ℕ) × IsRunCommand words n s)
-    ⊎ (IsRecover words ⊎ (((count s : ℕ) × IsGen words count s) ⊎ (((count s n : ℕ) × IsBench words count s n) ⊎ (IsMigrate words ⊎ (IsAudit words ⊎ IsCompact words)))))
+    ⊎ (IsRecover words ⊎ (((count s : ℕ) × IsGen words count s) ⊎ (((count s n : ℕ) × IsBench words count s n)
+    ⊎ (IsMigrate words ⊎ (IsAudit words ⊎ (IsCompact words ⊎ ((n : ℕ) × IsFollow words n)))))))
 
 -- ---- a wrong word
 

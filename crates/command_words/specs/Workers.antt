@@ -1,7 +1,7 @@
 -- How many workers words ask for.
 use Rattle.std.specs.Prelude.{◌≡◌, ◌⊎◌, ℕ, List}
 use Rattle.command_words.specs.declared.commands.Command.{Command}
-use Rattle.command_words.specs.declared.commands.Command.TheVariants.{Run, Recover, Migrate, Compact, Audit, Gen, Bench}
+use Rattle.command_words.specs.declared.commands.Command.TheVariants.{Run, Recover, Migrate, Compact, Follow, Audit, Gen, Bench}
 use Rattle.command_words.specs.Commands.{IsCommand}
 use Rattle.command_words.specs.Words.{IsForm}
 
@@ -10,6 +10,7 @@ workers_in (Run n s) = n
 workers_in Recover = 0
 workers_in Migrate = 0
 workers_in Compact = 0
+workers_in (Follow n) = 0
 workers_in Audit = 0
 workers_in (Gen count s) = 0
 workers_in (Bench count s n) = n

@@ -11,6 +11,8 @@ pub enum Command {
     Migrate,
     /// Writes a checkpoint in place of the records that the logs in use hold.
     Compact,
+    /// Reads the logs so many times, 2 to 1,000, and prints what a follower of them has then.
+    Follow { rounds: u16 },
     /// Says whether the input is the papers of a run.
     Audit,
     /// Prints the text of so many transactions that the seed draws.

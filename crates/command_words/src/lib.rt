@@ -4,6 +4,7 @@
 
 mod commands;
 mod laws;
+mod limits;
 mod numbers;
 mod runs;
 mod words;
@@ -11,6 +12,7 @@ mod workers;
 
 pub use commands::Command;
 pub use laws::one_command;
+pub use limits::{FEWEST_ROUNDS, MOST_ROUNDS};
 pub use snap_work::MOST_WORKERS;
 pub use words::read_words;
 pub use workers::workers_of;

@@ -7,7 +7,7 @@ ghost use Rattle.command_words.specs.Words.{IsUsageFault};
 ghost use Rattle.snap_work.specs.declared.limits.TheConstants.{MOST_TRANSACTIONS};
 
 use crate::commands::Command;
-use crate::numbers::{count_of, workers_of};
+use crate::numbers::{count_of, rounds_of, workers_of};
 use crate::runs::read_run;
 use decimal_words::natural;
 
@@ -31,6 +31,9 @@ pub fn read_words(words: &[String]) -> Result<Command, u32>
     }
     if word == "compact" {
         return read_compact(rest);
+    }
+    if word == "follow" {
+        return read_follow(rest);
     }
     if word == "audit" {
         return read_audit(rest);
@@ -72,6 +75,22 @@ fn read_compact(words: &[String]) -> Result<Command, u32>
         return Err(1);
     }
     Ok(Command::Compact)
+}
+
+/// The words behind `follow`: a number of rounds.
+fn read_follow(words: &[String]) -> Result<Command, u32>
+    ensures { MatchResult result (IsCommand (codes "follow" ∷ map string_bytes words.now)) (IsUsageFault (codes "follow" ∷ map string_bytes words.now)) }
+{
+    let Some((word, rest)) = words.split_first() else {
+        return Err(1);
+    };
+    let Some(rounds) = rounds_of(word.as_bytes()) else {
+        return Err(1);
+    };
+    if !rest.is_empty() {
+        return Err(2);
+    }
+    Ok(Command::Follow { rounds })
 }
 
 /// The words behind `audit`: there may be none.

@@ -19,6 +19,8 @@ mod fakes;
 #[cfg(test)]
 mod faults;
 #[cfg(test)]
+mod growing;
+#[cfg(test)]
 mod logs;
 #[cfg(test)]
 mod ran;

@@ -6,8 +6,8 @@ use Rattle.snap_report.specs.declared.audit_faults.AuditFault.{AuditFault}
 use Rattle.snap_report.specs.declared.audit_faults.AuditFault.TheVariants as audit
 use Rattle.snap_report.specs.declared.statuses.Status.{Status}
 use Rattle.snap_report.specs.declared.statuses.Status.TheVariants as status
-use Rattle.snap_run.proofs.Outcomes.{run_not_audit, recover_not_audit, migrate_not_audit, gen_not_audit, bench_not_audit, audit_not_compact}
-use Rattle.snap_run.specs.Answers.{IsAnswer, ran, recovered, generated, measured, migrated, compacted, audited, refused}
+use Rattle.snap_run.proofs.Outcomes.{run_not_audit, recover_not_audit, migrate_not_audit, gen_not_audit, bench_not_audit, audit_not_compact, audit_not_follow}
+use Rattle.snap_run.specs.Answers.{IsAnswer, ran, recovered, generated, measured, migrated, compacted, followed, audited, refused}
 use Rattle.snap_run.specs.Audits.{OfInput, IsAuditRefusal, audit_fault, audit_input, audit_memory, audit_read_fault, IsAuditAnswer, audit_done, audit_refused, audit_out_fault, IsAuditable}
 use Rattle.snap_run.specs.Uses.{Use}
 use Rattle.trace_audit.specs.AuditNos.{fault_meant}
@@ -69,6 +69,7 @@ module _ (one : OneCommand) (u : Use) (input : List ℕ) (may : IsAuditable u in
   audit_answer s (measured count seed n bench _ _) = absurd (bench_not_audit one u.words count seed n bench may.audit)
   audit_answer s (migrated migrate _ _ _ _) = absurd (migrate_not_audit one u.words migrate may.audit)
   audit_answer s (compacted compact _ _ _ _) = absurd (audit_not_compact one u.words may.audit compact)
+  audit_answer s (followed j follow _ _ _ _) = absurd (audit_not_follow one u.words j may.audit follow)
   audit_answer s (audited _ _ a) = a
   audit_answer s (refused place is fault _ _) = absurd (fault.no_form (inr (inr (inr (inr (inr (inl may.audit)))))))
 

@@ -9,9 +9,9 @@ use Rattle.snap_outside.specs.Causes.{Rose}
 use Rattle.run_work.specs.run_opening.snap_recover.declared.openings.Opening.{Opening}
 use Rattle.snap_report.specs.declared.statuses.Status.{Status}
 use Rattle.snap_report.specs.declared.statuses.Status.TheVariants as status
-use Rattle.snap_run.proofs.Outcomes.{not_both, run_not_gen, recover_not_gen, run_not_bench, recover_not_bench, gen_not_bench, run_not_migrate, gen_not_migrate, bench_not_migrate, run_not_audit, gen_not_audit, bench_not_audit, run_not_compact, gen_not_compact, bench_not_compact}
+use Rattle.snap_run.proofs.Outcomes.{not_both, run_not_gen, recover_not_gen, run_not_bench, recover_not_bench, gen_not_bench, run_not_migrate, gen_not_migrate, bench_not_migrate, run_not_audit, gen_not_audit, bench_not_audit, run_not_compact, gen_not_compact, bench_not_compact, run_not_follow, gen_not_follow, bench_not_follow}
 use Rattle.snap_run.specs.Answers.{schedule_asked, ran_of, IsInputAnswer, input_refused, input_memory, input_read_fault, IsRunAnswer, IsGenAnswer, gen_done, gen_memory, gen_out_fault}
-use Rattle.snap_run.specs.Answers.{IsAnswer, ran, recovered, generated, measured, migrated, compacted, audited, refused, IsUntroubled, IsPrintable, MayBeMeasured}
+use Rattle.snap_run.specs.Answers.{IsAnswer, ran, recovered, generated, measured, migrated, compacted, followed, audited, refused, IsUntroubled, IsPrintable, MayBeMeasured}
 use Rattle.work_gen.specs.Generated.{generated_text}
 use Rattle.snap_run.specs.Uses.{Use}
 use Rattle.snap_work.specs.declared.faults.WorkFault.{WorkFault}
@@ -59,6 +59,7 @@ module _ (one : OneCommand) (apart : FaultOrWork) (u : Use) (text : List ℕ) (w
   completed s not (measured count seed n bench _ _) = absurd (run_not_bench one u.words t.run.0 t.run.1 count seed n t.run.2 bench)
   completed s not (migrated migrate _ _ _ _) = absurd (run_not_migrate one u.words t.run.0 t.run.1 t.run.2 migrate)
   completed s not (compacted compact _ _ _ _) = absurd (run_not_compact one u.words t.run.0 t.run.1 t.run.2 compact)
+  completed s not (followed j follow _ _ _ _) = absurd (run_not_follow one u.words t.run.0 t.run.1 j t.run.2 follow)
   completed s not (audited audit _ _) = absurd (run_not_audit one u.words t.run.0 t.run.1 t.run.2 audit)
   completed s not (refused place is fault _ _) = absurd (fault.no_form (inl t.run))
 
@@ -76,6 +77,7 @@ completed_gen one u may s (generated count seed gen _ _ a) = gen_completed (gene
 completed_gen one u may s (measured count seed n bench _ _) = absurd (gen_not_bench one u.words may.gen.0 may.gen.1 count seed n may.gen.2 bench)
 completed_gen one u may s (migrated migrate _ _ _ _) = absurd (gen_not_migrate one u.words may.gen.0 may.gen.1 may.gen.2 migrate)
 completed_gen one u may s (compacted compact _ _ _ _) = absurd (gen_not_compact one u.words may.gen.0 may.gen.1 may.gen.2 compact)
+completed_gen one u may s (followed j follow _ _ _ _) = absurd (gen_not_follow one u.words may.gen.0 may.gen.1 j may.gen.2 follow)
 completed_gen one u may s (audited audit _ _) = absurd (gen_not_audit one u.words may.gen.0 may.gen.1 may.gen.2 audit)
 completed_gen one u may s (refused place is fault _ _) = absurd (fault.no_form (inr (inr (inl (may.gen.0, may.gen.1, may.gen.2)))))
 
@@ -91,5 +93,6 @@ completed_bench one u count seed n w records o bench may s not (measured other l
     ended summing (ran_of u run.0 (schedule_asked m 0)) s not may.sink may.trace run.3
 completed_bench one u count seed n w records o bench may s not (migrated migrate _ _ _ _) = absurd (bench_not_migrate one u.words count seed n bench migrate)
 completed_bench one u count seed n w records o bench may s not (compacted compact _ _ _ _) = absurd (bench_not_compact one u.words count seed n bench compact)
+completed_bench one u count seed n w records o bench may s not (followed j follow _ _ _ _) = absurd (bench_not_follow one u.words count seed n j bench follow)
 completed_bench one u count seed n w records o bench may s not (audited audit _ _) = absurd (bench_not_audit one u.words count seed n bench audit)
 completed_bench one u count seed n w records o bench may s not (refused place is fault _ _) = absurd (fault.no_form (inr (inr (inr (inl (count, seed, n, bench))))))

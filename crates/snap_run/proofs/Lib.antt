@@ -1,5 +1,6 @@
 pub mod AuditComplete
 pub mod Complete
+pub mod FollowComplete
 pub mod InputLaws
 pub mod KeptLines
 pub mod Outcomes

@@ -6,26 +6,28 @@ use Rattle.snap_report.specs.declared.statuses.Status.TheVariants as status
 use Rattle.snap_work.specs.Works.{Work}
 use Rattle.work_gen.specs.work_text.Reads.{IsWork}
 use Rattle.record_log.specs.Records.{KeepsRecords}
-use Rattle.log_opening.specs.Devices.{Device, IsOpenedAtMost}
+use Rattle.log_following.specs.log_opening.Devices.{Device, IsOpenedAtMost}
 use Rattle.run_work.specs.run_opening.Opens.{MayOpen}
 use Rattle.run_work.specs.run_recovery.Schedules.{free}
 use Rattle.run_work.specs.Runs.{Printing, RunUse, IsAnswerOf, IsWorkAnswer, IsOfLogs}
 use Rattle.run_work.specs.Writings.{Writing, WritesNothing}
 use Rattle.run_work.specs.run_opening.snap_recover.declared.openings.Opening.{Opening}
 use Rattle.command_words.specs.declared.commands.Command.{Command}
-use Rattle.command_words.specs.declared.commands.Command.TheVariants.{Run, Recover, Migrate, Compact, Audit, Gen, Bench}
+use Rattle.command_words.specs.declared.commands.Command.TheVariants.{Run, Recover, Migrate, Compact, Follow, Audit, Gen, Bench}
 use Rattle.command_words.specs.CommandLaws.{OneCommand}
 use Rattle.command_words.specs.Commands.{IsCommand}
-use Rattle.command_words.specs.Words.{AreLastWorkers, IsRunCommand, IsRecover, IsMigrate, IsCompact, IsAudit, IsGen, IsBench, IsForm, IsUsageFault}
+use Rattle.command_words.specs.Words.{AreLastWorkers, IsRunCommand, IsRecover, IsMigrate, IsCompact, IsFollow, IsAudit, IsGen, IsBench, IsForm, IsUsageFault}
 use Rattle.command_words.specs.Workers.{workers_in, AskFor}
 use Rattle.snap_run.specs.Uses.{Reading, Use}
 use Rattle.snap_run.specs.Audits.{IsAuditAnswer}
 use Rattle.log_compaction.specs.Crashes.{CompactsSafely}
+use Rattle.log_following.specs.Readings.{AreUntouched}
+use Rattle.snap_run.specs.Followings.{IsFollowAnswer, follow_done, follow_refused, follow_memory, follow_log_fault, follow_out_fault}
 use Rattle.snap_run.specs.Compactions.{IsCompactAnswer, compact_done, compact_refused, compact_too_many, compact_memory, compact_log_fault, compact_out_fault}
 use Rattle.snap_run.specs.Migrations.{IsMigrateAnswer, migrate_done, migrate_refused, migrate_memory, migrate_log_fault, migrate_out_fault}
 use Rattle.snap_run.specs.Recoveries.{IsRecoverAnswer, recover_done, recover_refused, recover_memory, recover_log_fault, recover_out_fault}
 use Rattle.snap_run.specs.Answers.{OfText, schedule_asked, ran_of, ReadsNothing, IsInputAnswer, input_refused, input_memory, input_read_fault, TouchesNothing, TakesNoEvent, IsGenAnswer}
-use Rattle.snap_run.specs.Answers.{IsMeasured, ran, recovered, generated, measured, migrated, compacted, audited, refused, GetsNoCall, IsUntroubled, MayBeMeasured}
+use Rattle.snap_run.specs.Answers.{IsMeasured, ran, recovered, generated, measured, migrated, compacted, followed, audited, refused, GetsNoCall, IsUntroubled, MayBeMeasured}
 use Rattle.work_gen.specs.Generated.{generated_text}
 use Rattle.snap_run.specs.Outcomes.{IsOutcome}
 use Rattle.record_log.specs.txn_records.declared.records.Record.{Record}
@@ -95,6 +97,27 @@ gen_not_compact one words count seed gen compact = let e : Gen count seed ≡ Co
 pub bench_not_compact : OneCommand → (words : List (List ℕ)) (count seed n : ℕ) → IsBench words count seed n → IsCompact words → ⊥
 bench_not_compact one words count seed n bench compact = let e : Bench count seed n ≡ Compact = one words (Bench count seed n) Compact bench compact in cc
 
+pub run_not_follow : OneCommand → (words : List (List ℕ)) (n seed j : ℕ) → IsRunCommand words n seed → IsFollow words j → ⊥
+run_not_follow one words n seed j run follow = let e : Run n seed ≡ Follow j = one words (Run n seed) (Follow j) run follow in cc
+
+pub recover_not_follow : OneCommand → (words : List (List ℕ)) (j : ℕ) → IsRecover words → IsFollow words j → ⊥
+recover_not_follow one words j recover follow = let e : Recover ≡ Follow j = one words Recover (Follow j) recover follow in cc
+
+pub migrate_not_follow : OneCommand → (words : List (List ℕ)) (j : ℕ) → IsMigrate words → IsFollow words j → ⊥
+migrate_not_follow one words j migrate follow = let e : Migrate ≡ Follow j = one words Migrate (Follow j) migrate follow in cc
+
+pub compact_not_follow : OneCommand → (words : List (List ℕ)) (j : ℕ) → IsCompact words → IsFollow words j → ⊥
+compact_not_follow one words j compact follow = let e : Compact ≡ Follow j = one words Compact (Follow j) compact follow in cc
+
+pub audit_not_follow : OneCommand → (words : List (List ℕ)) (j : ℕ) → IsAudit words → IsFollow words j → ⊥
+audit_not_follow one words j audit follow = let e : Audit ≡ Follow j = one words Audit (Follow j) audit follow in cc
+
+pub gen_not_follow : OneCommand → (words : List (List ℕ)) (count seed j : ℕ) → IsGen words count seed → IsFollow words j → ⊥
+gen_not_follow one words count seed j gen follow = let e : Gen count seed ≡ Follow j = one words (Gen count seed) (Follow j) gen follow in cc
+
+pub bench_not_follow : OneCommand → (words : List (List ℕ)) (count seed n j : ℕ) → IsBench words count seed n → IsFollow words j → ⊥
+bench_not_follow one words count seed n j bench follow = let e : Bench count seed n ≡ Follow j = one words (Bench count seed n) (Follow j) bench follow in cc
+
 -- a command is a form
 form_of : (words : List (List ℕ)) (c : Command) → IsCommand words c → IsForm words
 form_of words (Run n seed) is = inl (n, seed, is)
@@ -103,7 +126,8 @@ form_of words (Gen count seed) is = inr (inr (inl (count, seed, is)))
 form_of words (Bench count seed n) is = inr (inr (inr (inl (count, seed, n, is))))
 form_of words Migrate is = inr (inr (inr (inr (inl is))))
 form_of words Audit is = inr (inr (inr (inr (inr (inl is)))))
-form_of words Compact is = inr (inr (inr (inr (inr (inr is)))))
+form_of words Compact is = inr (inr (inr (inr (inr (inr (inl is))))))
+form_of words (Follow n) is = inr (inr (inr (inr (inr (inr (inr (n, is)))))))
 
 -- the command that they are says how many workers they ask for
 pub asked : OneCommand → (words : List (List ℕ)) (n : ℕ) (c : Command) → AskFor words n → IsCommand words c → workers_in c ≡ n
@@ -138,6 +162,7 @@ input_outcome one u n seed s run nothing a = record {
   kept = λ recover. absurd (not_both one u.words n seed run recover);
   migrated = λ migrate. absurd (run_not_migrate one u.words n seed run migrate);
   compacted = λ compact. absurd (run_not_compact one u.words n seed run compact);
+  followed = λ j follow. absurd (run_not_follow one u.words n seed j run follow);
 }
 
 pub input_not_of_logs : (r : Reading) (s : Status) → IsInputAnswer r s → ¬ IsOfLogs s
@@ -166,6 +191,7 @@ run_outcome one u n seed w s run of a = record {
   kept = λ recover. absurd (not_both one u.words n seed run recover);
   migrated = λ migrate. absurd (run_not_migrate one u.words n seed run migrate);
   compacted = λ compact. absurd (run_not_compact one u.words n seed run compact);
+  followed = λ j follow. absurd (run_not_follow one u.words n seed j run follow);
 }
 
 -- several workers take any schedule
@@ -217,6 +243,7 @@ recover_outcome one u s recover nothing none untraced opened kept a = record {
   kept = λ _. kept;
   migrated = λ migrate. absurd (recover_not_migrate one u.words recover migrate);
   compacted = λ compact. absurd (recover_not_compact one u.words recover compact);
+  followed = λ j follow. absurd (recover_not_follow one u.words j recover follow);
 }
 
 pub migrate_calls : (before after : List Device) (out : Writing) (s : Status) → IsMigrateAnswer before after out s → GetsNoCall s → ⊥
@@ -234,6 +261,7 @@ migrate_outcome one u s migrate nothing none untraced kept a = record {
   kept = λ recover. absurd (recover_not_migrate one u.words recover migrate);
   migrated = λ _. kept;
   compacted = λ compact. absurd (migrate_not_compact one u.words migrate compact);
+  followed = λ j follow. absurd (migrate_not_follow one u.words j migrate follow);
 }
 
 pub compact_calls : (before after : List Device) (out : Writing) (s : Status) → IsCompactAnswer before after out s → GetsNoCall s → ⊥
@@ -252,6 +280,25 @@ compact_outcome one u s compact nothing none untraced safe a = record {
   kept = λ recover. absurd (recover_not_compact one u.words recover compact);
   migrated = λ migrate. absurd (migrate_not_compact one u.words migrate compact);
   compacted = λ _. safe;
+  followed = λ j follow. absurd (compact_not_follow one u.words j compact follow);
+}
+
+pub follow_calls : (rounds : ℕ) (before after : List Device) (out : Writing) (s : Status) → IsFollowAnswer rounds before after out s → GetsNoCall s → ⊥
+follow_calls rounds before after out s (follow_done f is writes) none = none
+follow_calls rounds before after out s (follow_refused log offset cause is nothing) none = none
+follow_calls rounds before after out s (follow_memory nothing) none = none
+follow_calls rounds before after out s (follow_log_fault log is nothing) none = none
+follow_calls rounds before after out s (follow_out_fault f is front rose) none = none
+
+pub follow_outcome : OneCommand → (u : Use) (rounds : ℕ) (s : Status) → IsFollow u.words rounds → ReadsNothing u.reading → u.kept ≡ [] → WritesNothing u.tracing
+    → AreUntouched u.devices_before u.devices_after → IsFollowAnswer rounds u.devices_before u.devices_after u.writing s → IsOutcome u s
+follow_outcome one u rounds s follow nothing none untraced untouched a = record {
+  answer = followed rounds follow nothing none untraced a;
+  opened = λ recover. absurd (recover_not_follow one u.words rounds recover follow);
+  kept = λ recover. absurd (recover_not_follow one u.words rounds recover follow);
+  migrated = λ migrate. absurd (migrate_not_follow one u.words rounds migrate follow);
+  compacted = λ compact. absurd (compact_not_follow one u.words rounds compact follow);
+  followed = λ _ _. untouched;
 }
 
 pub usage_outcome : (u : Use) (place : ℕ) → IsUsageFault u.words place → ReadsNothing u.reading → TouchesNothing u → IsOutcome u (status.Usage place)
@@ -260,7 +307,8 @@ usage_outcome u place fault reads nothing = record {
   opened = λ recover. absurd (fault.no_form (inr (inl recover)));
   kept = λ recover. absurd (fault.no_form (inr (inl recover)));
   migrated = λ migrate. absurd (fault.no_form (inr (inr (inr (inr (inl migrate))))));
-  compacted = λ compact. absurd (fault.no_form (inr (inr (inr (inr (inr (inr compact)))))));
+  compacted = λ compact. absurd (fault.no_form (inr (inr (inr (inr (inr (inr (inl compact))))))));
+  followed = λ j follow. absurd (fault.no_form (inr (inr (inr (inr (inr (inr (inr (j, follow)))))))));
 }
 
 pub gen_outcome : OneCommand → (u : Use) (count seed : ℕ) (s : Status) → IsGen u.words count seed → ReadsNothing u.reading → TakesNoEvent u → IsGenAnswer (generated_text count seed) u.writing s → IsOutcome u s
@@ -270,6 +318,7 @@ gen_outcome one u count seed s gen reads nothing a = record {
   kept = λ recover. absurd (recover_not_gen one u.words count seed recover gen);
   migrated = λ migrate. absurd (gen_not_migrate one u.words count seed gen migrate);
   compacted = λ compact. absurd (gen_not_compact one u.words count seed gen compact);
+  followed = λ j follow. absurd (gen_not_follow one u.words count seed j gen follow);
 }
 
 pub bench_outcome : OneCommand → (u : Use) (count seed n : ℕ) (s : Status) → IsBench u.words count seed n → ReadsNothing u.reading → IsMeasured u (schedule_asked n 0) count seed s
@@ -280,6 +329,7 @@ bench_outcome one u count seed n s bench reads a = record {
   kept = λ recover. absurd (recover_not_bench one u.words count seed n recover bench);
   migrated = λ migrate. absurd (bench_not_migrate one u.words count seed n bench migrate);
   compacted = λ compact. absurd (bench_not_compact one u.words count seed n bench compact);
+  followed = λ j follow. absurd (bench_not_follow one u.words count seed n j bench follow);
 }
 
 pub audit_outcome : OneCommand → (u : Use) (s : Status) → IsAudit u.words → TakesNoEvent u → IsAuditAnswer u.reading u.writing s → IsOutcome u s
@@ -289,6 +339,7 @@ audit_outcome one u s audit nothing a = record {
   kept = λ recover. absurd (recover_not_audit one u.words recover audit);
   migrated = λ migrate. absurd (migrate_not_audit one u.words migrate audit);
   compacted = λ compact. absurd (audit_not_compact one u.words audit compact);
+  followed = λ j follow. absurd (audit_not_follow one u.words j audit follow);
 }
 
 -- the words tell one count and one seed

@@ -23,25 +23,25 @@ use Rattle.run_work.specs.run_opening.snap_recover.declared.causes.LogCause.{Log
 use Rattle.run_work.specs.run_opening.snap_recover.declared.causes.LogCause.TheVariants as cause
 use Rattle.snap_report.specs.declared.statuses.Status.{Status}
 use Rattle.snap_report.specs.declared.statuses.Status.TheVariants as status
-use Rattle.log_opening.specs.Devices.{Device, device_at, HoldsNoOld, HoldsOld, IsOld}
-use Rattle.log_opening.specs.Found.{IsFoldCause}
-use Rattle.log_opening.specs.declared.refusals.LogsNo.TheVariants as ending
-use Rattle.log_opening.specs.Kept.{AreFolded, AreGiven, AreUsed, DeviceHolds, IsLogRefused, records_at}
-use Rattle.log_opening.specs.log_compact.declared.folds.Folded.{Folded}
-use Rattle.log_opening.specs.log_compact.declared.refusals.FoldNo.TheVariants as fold
-use Rattle.log_opening.specs.log_compact.Finding.{AreFronts, FrontsTell, OneUse}
-use Rattle.log_opening.specs.log_compact.Folds.{RefusedAreNotFolded}
-use Rattle.log_opening.specs.log_compact.Fronts.{HoldsFront, IsFront, OneFront}
-use Rattle.log_opening.specs.log_compact.Sets.{IsFolded, OneFold}
+use Rattle.log_following.specs.log_opening.Devices.{Device, device_at, HoldsNoOld, HoldsOld, IsOld}
+use Rattle.log_following.specs.log_opening.Found.{IsFoldCause}
+use Rattle.log_following.specs.log_opening.declared.refusals.LogsNo.TheVariants as ending
+use Rattle.log_following.specs.log_opening.Kept.{AreFolded, AreGiven, AreUsed, DeviceHolds, IsLogRefused, records_at}
+use Rattle.log_following.specs.log_opening.log_compact.declared.folds.Folded.{Folded}
+use Rattle.log_following.specs.log_opening.log_compact.declared.refusals.FoldNo.TheVariants as fold
+use Rattle.log_following.specs.log_opening.log_compact.Finding.{AreFronts, FrontsTell, OneUse}
+use Rattle.log_following.specs.log_opening.log_compact.Folds.{RefusedAreNotFolded}
+use Rattle.log_following.specs.log_opening.log_compact.Fronts.{HoldsFront, IsFront, OneFront}
+use Rattle.log_following.specs.log_opening.log_compact.Sets.{IsFolded, OneFold}
 use Rattle.run_work.specs.run_opening.Opens.{TellsLog, TellsRecords}
 use Rattle.run_work.specs.run_recovery.Recoverable.{AreRecoverable}
 use Rattle.snap_run.specs.Uses.{Use}
-use Rattle.snap_run.specs.Answers.{IsAnswer, ran, recovered, generated, measured, migrated, compacted, audited, refused}
+use Rattle.snap_run.specs.Answers.{IsAnswer, ran, recovered, generated, measured, migrated, compacted, followed, audited, refused}
 use Rattle.snap_run.specs.Compactions.{IsCompactAnswer, compact_done, compact_refused, compact_too_many, compact_memory, compact_log_fault, compact_out_fault}
 use Rattle.snap_run.specs.Migrations.{IsMigrateAnswer, migrate_done, migrate_refused, migrate_memory, migrate_log_fault, migrate_out_fault}
 use Rattle.snap_run.specs.Recoveries.{IsRecoverAnswer, recover_done, recover_refused, recover_memory, recover_log_fault, recover_out_fault}
 use Rattle.snap_run.proofs.Outcomes.{not_both, recover_not_gen, recover_not_bench, run_not_migrate, recover_not_migrate, gen_not_migrate, bench_not_migrate, recover_not_audit, migrate_not_audit}
-use Rattle.snap_run.proofs.Outcomes.{run_not_compact, recover_not_compact, migrate_not_compact, audit_not_compact, gen_not_compact, bench_not_compact}
+use Rattle.snap_run.proofs.Outcomes.{run_not_compact, recover_not_compact, migrate_not_compact, audit_not_compact, gen_not_compact, bench_not_compact, recover_not_follow, migrate_not_follow, compact_not_follow}
 
 -- what the laws of logs and of records say
 pub record RecoverLaws : Type 0 where
@@ -77,6 +77,7 @@ folds_not_refused never logs f log cause.Damage on x = x
 folds_not_refused never logs f log cause.OldFormat on x = x
 folds_not_refused never logs f log cause.BadRecord on x = x
 folds_not_refused never logs f log cause.Stray on x = never logs (fold.Stray log) f (λ e. cc) x on
+folds_not_refused never logs f log cause.Back on x = x
 folds_not_refused never logs f log cause.NoGenesis on x = never logs (fold.Recover recover.NoGenesis) f (λ e. cc) x.1 on
 folds_not_refused never logs f log cause.TwoGenesis on x = never logs (fold.Recover recover.TwoGenesis) f (λ e. cc) x.1 on
 folds_not_refused never logs f log (cause.LogCount kept found) on x = never logs (fold.Recover (recover.LogCount kept found)) f (λ e. cc) x.1 on
@@ -102,7 +103,7 @@ told_there [] (suc d) h tells = absurd (cc)
 told_there (x ∷ ds) zero h tells = omega arith
 told_there (x ∷ ds) (suc d) h tells = let there = told_there ds d h tells in omega (arith, there)
 
-same_records : OneListOfRecords → (d : Device) (rs xs : List Record) → TellsRecords d rs → DeviceHolds d xs → xs ≡ rs
+pub same_records : OneListOfRecords → (d : Device) (rs xs : List Record) → TellsRecords d rs → DeviceHolds d xs → xs ≡ rs
 same_records one d rs xs tells holds = one (content tells.0) xs rs (subst (λ (m : Option DeviceHistory). IfSome m (λ h. HoldsRecords (content h) xs)) tells.1 holds) tells.2
 
 log_not_foreign : RecoverLaws → (bytes : List ℕ) (items : List (List ℕ)) (offset : ℕ) → IsLog bytes items → NEW_LOG_SIZE < length bytes → DiffersAt bytes offset → ⊥
@@ -113,12 +114,12 @@ log_not_damaged : RecoverLaws → (bytes : List ℕ) (items : List (List ℕ)) (
 log_not_damaged laws bytes items offset (inl short) long damaged = omega (arith, short.0, long)
 log_not_damaged laws bytes items offset (inr log) long damaged = laws.damaged bytes offset log.1.0 items damaged log.1.1
 
-opens_well : RecoverLaws → (d : Device) (new : Option DeviceHistory) (offset : ℕ) → TellsLog d → Refused d.told new (refusal.NotALog offset) → ⊥
+pub opens_well : RecoverLaws → (d : Device) (new : Option DeviceHistory) (offset : ℕ) → TellsLog d → Refused d.told new (refusal.NotALog offset) → ⊥
 opens_well laws d new offset tells why =
     let x = subst (λ (m : Option DeviceHistory). Refused m new (refusal.NotALog offset)) tells.2 why in
     log_not_foreign laws (content tells.0) tells.1 offset tells.3 x.1.0 x.1.1
 
-opens_whole : RecoverLaws → (d : Device) (new : Option DeviceHistory) (offset : ℕ) → TellsLog d → Refused d.told new (refusal.Damage offset) → ⊥
+pub opens_whole : RecoverLaws → (d : Device) (new : Option DeviceHistory) (offset : ℕ) → TellsLog d → Refused d.told new (refusal.Damage offset) → ⊥
 opens_whole laws d new offset tells why =
     let x = subst (λ (m : Option DeviceHistory). Refused m new (refusal.Damage offset)) tells.2 why in
     log_not_damaged laws (content tells.0) tells.1 offset tells.3 x.1.0 x.1.1
@@ -138,14 +139,14 @@ same_front laws bytes a b one other =
     laws.one_front other.0 a b (subst (λ (items : List (List ℕ)). IsFront items a) same one.2) other.2
 
 -- the first two records of its front are these
-front_again : RecoverLaws → (d : Device) (a b : List Record) → TellsLog d → IfSome d.told (λ h. HoldsFront (content h) a) → IfSome d.told (λ h. HoldsFront (content h) b) → a ≡ take 2 b
+pub front_again : RecoverLaws → (d : Device) (a b : List Record) → TellsLog d → IfSome d.told (λ h. HoldsFront (content h) a) → IfSome d.told (λ h. HoldsFront (content h) b) → a ≡ take 2 b
 front_again laws d a b tells one other =
     let here : HoldsFront (content tells.0) a = subst (λ (m : Option DeviceHistory). IfSome m (λ h. HoldsFront (content h) a)) tells.2 one in
     let there : HoldsFront (content tells.0) b = subst (λ (m : Option DeviceHistory). IfSome m (λ h. HoldsFront (content h) b)) tells.2 other in
     same_front laws (content tells.0) a b here there ∙ sym (take_all 2 b there.2.few)
 
 -- lists that hold the same at each place
-same_lists : (xs ys : List (List Record)) → length xs ≡ length ys → ((l : ℕ) → l < length xs → records_at xs l ≡ records_at ys l) → xs ≡ ys
+pub same_lists : (xs ys : List (List Record)) → length xs ≡ length ys → ((l : ℕ) → l < length xs → records_at xs l ≡ records_at ys l) → xs ≡ ys
 same_lists [] [] long each = refl
 same_lists [] (y ∷ ys) long each = absurd (omega (arith, long))
 same_lists (x ∷ xs) [] long each = absurd (omega (arith, long))
@@ -161,11 +162,11 @@ module _ (one : OneCommand) (laws : RecoverLaws) (u : Use) (lists : List (List R
     abbrev before : List Device
     before = u.devices_before
 
-    there : (d : ℕ) → d < 4 → d < length before
+    pub there : (d : ℕ) → d < 4 → d < length before
     there d lt = let tells = is.each d lt in told_there before d tells.0 tells.2
 
     -- the same ones are in use, whatever tells it
-    same_used : (other many generation : ℕ) → AreUsed 1 before other many generation → (head ≡ other) × (length lists ≡ many) × (is.generation ≡ generation)
+    pub same_used : (other many generation : ℕ) → AreUsed 1 before other many generation → (head ≡ other) × (length lists ≡ many) × (is.generation ≡ generation)
     same_used other many generation used =
         laws.one_use is.used.fronts 1 head (length lists) is.generation other many generation is.used.used (((laws.tell used.fronts is.used.fronts alike).used 1 other many generation).0 used.used)
       where
@@ -175,7 +176,7 @@ module _ (one : OneCommand) (laws : RecoverLaws) (u : Use) (lists : List (List R
             front_again laws (device_at before d) (is.used.fronts d) (used.fronts d) (is.each d in_four) (is.used.each d in_four) (used.each d in_four)
 
     -- what is told of one of them is told of the same
-    told_at : (other many generation log n : ℕ) → AreUsed 1 before other many generation → n < many → log ≡ other + n → (n < length lists) × (head + n ≡ log)
+    pub told_at : (other many generation log n : ℕ) → AreUsed 1 before other many generation → n < many → log ≡ other + n → (n < length lists) × (head + n ≡ log)
     told_at other many generation log n used lt named = let same = same_used other many generation used in (omega (arith, same.1, lt), omega (arith, same.0, named))
 
     given_same : (other : ℕ) (xs : List (List Record)) → AreGiven before other xs → (head ≡ other) × (xs ≡ lists)
@@ -207,6 +208,7 @@ module _ (one : OneCommand) (laws : RecoverLaws) (u : Use) (lists : List (List R
         subst (λ (d : ℕ). TellsRecords (device_at before d) (records_at lists (length bad.below))) at.1 (is.told (length bad.below) at.0) in
         decodes laws (device_at before log) bad.bad.1 (records_at lists (length bad.below)) bad.bad.0 offset bad.bad.2 here bad.bad.3 bad.bad.4
     none_refused after log offset cause.Stray x = given_not_refused x.1.head x.1.lists x.1.number cause.Stray x.1.given x.1.cause_is
+    none_refused after log offset cause.Back x = given_not_refused x.1.head x.1.lists x.1.number cause.Back x.1.given x.1.cause_is
     none_refused after log offset cause.NoGenesis x = given_not_refused x.1.head x.1.lists x.1.number cause.NoGenesis x.1.given x.1.cause_is
     none_refused after log offset cause.TwoGenesis x = given_not_refused x.1.head x.1.lists x.1.number cause.TwoGenesis x.1.given x.1.cause_is
     none_refused after log offset (cause.LogCount k n) x = given_not_refused x.1.head x.1.lists x.1.number (cause.LogCount k n) x.1.given x.1.cause_is
@@ -254,6 +256,7 @@ module _ (one : OneCommand) (laws : RecoverLaws) (u : Use) (lists : List (List R
     none_kept_back may log offset cause.Damage x = none_refused u.devices_after log offset cause.Damage x
     none_kept_back may log offset cause.BadRecord x = none_refused u.devices_after log offset cause.BadRecord x
     none_kept_back may log offset cause.Stray x = none_refused u.devices_after log offset cause.Stray x
+    none_kept_back may log offset cause.Back x = none_refused u.devices_after log offset cause.Back x
     none_kept_back may log offset cause.NoGenesis x = none_refused u.devices_after log offset cause.NoGenesis x
     none_kept_back may log offset cause.TwoGenesis x = none_refused u.devices_after log offset cause.TwoGenesis x
     none_kept_back may log offset (cause.LogCount k n) x = none_refused u.devices_after log offset (cause.LogCount k n) x
@@ -281,6 +284,7 @@ module _ (one : OneCommand) (laws : RecoverLaws) (u : Use) (lists : List (List R
     completed_recover recover s (measured count seed n bench _ _) = absurd (recover_not_bench one u.words count seed n recover bench)
     completed_recover recover s (migrated migrate _ _ _ _) = absurd (recover_not_migrate one u.words recover migrate)
     completed_recover recover s (compacted compact _ _ _ _) = absurd (recover_not_compact one u.words recover compact)
+    completed_recover recover s (followed j follow _ _ _ _) = absurd (recover_not_follow one u.words j recover follow)
     completed_recover recover s (audited audit _ _) = absurd (recover_not_audit one u.words recover audit)
     completed_recover recover s (refused place is fault _ _) = absurd (fault.no_form (inr (inl recover)))
 
@@ -291,6 +295,7 @@ module _ (one : OneCommand) (laws : RecoverLaws) (u : Use) (lists : List (List R
     completed_migrate migrate s (measured count seed n bench _ _) = absurd (bench_not_migrate one u.words count seed n bench migrate)
     completed_migrate migrate s (migrated _ _ _ _ a) = migrate_completed s a
     completed_migrate migrate s (compacted compact _ _ _ _) = absurd (migrate_not_compact one u.words migrate compact)
+    completed_migrate migrate s (followed j follow _ _ _ _) = absurd (migrate_not_follow one u.words j migrate follow)
     completed_migrate migrate s (audited audit _ _) = absurd (migrate_not_audit one u.words migrate audit)
     completed_migrate migrate s (refused place is fault _ _) = absurd (fault.no_form (inr (inr (inr (inr (inl migrate))))))
 
@@ -301,5 +306,6 @@ module _ (one : OneCommand) (laws : RecoverLaws) (u : Use) (lists : List (List R
     completed_compact may compact s (measured count seed n bench _ _) = absurd (bench_not_compact one u.words count seed n bench compact)
     completed_compact may compact s (migrated migrate _ _ _ _) = absurd (migrate_not_compact one u.words migrate compact)
     completed_compact may compact s (compacted _ _ _ _ a) = compact_completed may s a
+    completed_compact may compact s (followed j follow _ _ _ _) = absurd (compact_not_follow one u.words j compact follow)
     completed_compact may compact s (audited audit _ _) = absurd (audit_not_compact one u.words audit compact)
-    completed_compact may compact s (refused place is fault _ _) = absurd (fault.no_form (inr (inr (inr (inr (inr (inr compact)))))))
+    completed_compact may compact s (refused place is fault _ _) = absurd (fault.no_form (inr (inr (inr (inr (inr (inr (inl compact))))))))

@@ -11,13 +11,14 @@ use Rattle.snap_work.specs.Works.{Work}
 use Rattle.work_gen.specs.work_text.Reads.{IsWork, IsFirstWorkFault}
 use Rattle.run_work.specs.run_opening.Opens.{MayOpen}
 use Rattle.run_work.specs.run_recovery.Schedules.{Schedule, seeded, free}
-use Rattle.command_words.specs.Words.{IsRunCommand, IsRecover, IsMigrate, IsCompact, IsAudit, IsGen, IsBench, IsUsageFault}
+use Rattle.command_words.specs.Words.{IsRunCommand, IsRecover, IsMigrate, IsCompact, IsFollow, IsAudit, IsGen, IsBench, IsUsageFault}
 use Rattle.snap_run.specs.Uses.{Reading, Use}
 use Rattle.run_work.specs.Writings.{Writing, WritesNothing, Writes, WritesFront}
 use Rattle.run_work.specs.Runs.{RunUse, IsWorkAnswer, IsBenchAnswer}
 use Rattle.work_gen.specs.Generated.{generated_text}
 use Rattle.snap_run.specs.Audits.{IsAuditAnswer}
 use Rattle.snap_run.specs.Compactions.{IsCompactAnswer}
+use Rattle.snap_run.specs.Followings.{IsFollowAnswer}
 use Rattle.snap_run.specs.Migrations.{IsMigrateAnswer}
 use Rattle.snap_run.specs.Recoveries.{IsRecoverAnswer}
 use Rattle.snap_work.specs.declared.limits.TheConstants.{LONGEST_WORK}
@@ -102,6 +103,9 @@ pub data IsAnswer (u : Use) (s : Status) : Type 0 where
   migrated : IsMigrate u.words → ReadsNothing u.reading → u.kept ≡ [] → WritesNothing u.tracing → IsMigrateAnswer u.devices_before u.devices_after u.writing s → IsAnswer u s
   -- a checkpoint is written in place of old records
   compacted : IsCompact u.words → ReadsNothing u.reading → u.kept ≡ [] → WritesNothing u.tracing → IsCompactAnswer u.devices_before u.devices_after u.writing s → IsAnswer u s
+  -- the logs are followed
+  followed : (rounds : ℕ) → IsFollow u.words rounds → ReadsNothing u.reading → u.kept ≡ [] → WritesNothing u.tracing
+      → IsFollowAnswer rounds u.devices_before u.devices_after u.writing s → IsAnswer u s
   -- the input is audited
   audited : IsAudit u.words → TakesNoEvent u → IsAuditAnswer u.reading u.writing s → IsAnswer u s
   -- the words are no form

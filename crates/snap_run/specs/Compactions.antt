@@ -2,9 +2,9 @@
 use Rattle.std.specs.Prelude.{ℕ, ◌<◌, List, length}
 use Rattle.command_words.specs.Words.{IsCompact}
 use Rattle.log_compaction.specs.Compacted.{AreCompacted, IsCompactNo, IsTooMany, MayCompactLogs}
-use Rattle.log_opening.specs.Devices.{Device, device_at}
-use Rattle.log_opening.specs.declared.refusals.LogsNo.TheVariants as ending
-use Rattle.log_opening.specs.log_compact.declared.folds.Folded.{Folded}
+use Rattle.log_following.specs.log_opening.Devices.{Device, device_at}
+use Rattle.log_following.specs.log_opening.declared.refusals.LogsNo.TheVariants as ending
+use Rattle.log_following.specs.log_opening.log_compact.declared.folds.Folded.{Folded}
 use Rattle.run_work.specs.run_recovery.Recoverable.{AreRecoverable}
 use Rattle.run_work.specs.Writings.{Writing, WritesNothing, Writes, WritesFront}
 use Rattle.snap_outside.specs.Causes.{Rose}

@@ -1,6 +1,7 @@
 pub mod Answers
 pub mod Audits
 pub mod Compactions
+pub mod Followings
 pub mod Migrations
 pub mod Outcomes
 pub mod Recoveries

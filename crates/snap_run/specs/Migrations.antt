@@ -2,13 +2,13 @@
 use Rattle.std.specs.Prelude.{ℕ, ◌<◌, List, length}
 use Rattle.command_words.specs.Words.{IsMigrate}
 use Rattle.log_migration.specs.Migrated.{AreMigrated, IsMigrateNo}
-use Rattle.log_opening.specs.Devices.{Device, device_at}
-use Rattle.log_opening.specs.declared.refusals.LogsNo.TheVariants as ending
+use Rattle.log_following.specs.log_opening.Devices.{Device, device_at}
+use Rattle.log_following.specs.log_opening.declared.refusals.LogsNo.TheVariants as ending
 use Rattle.run_work.specs.run_recovery.Recoverable.{AreRecoverable}
 use Rattle.run_work.specs.Writings.{Writing, WritesNothing, Writes, WritesFront}
 use Rattle.snap_outside.specs.Causes.{Rose}
 use Rattle.run_work.specs.run_opening.snap_recover.declared.causes.LogCause.{LogCause}
-use Rattle.log_opening.specs.log_compact.declared.folds.Folded.{Folded}
+use Rattle.log_following.specs.log_opening.log_compact.declared.folds.Folded.{Folded}
 use Rattle.snap_report.specs.Lines.{migrated_text}
 use Rattle.snap_report.specs.declared.statuses.Status.{Status}
 use Rattle.snap_report.specs.declared.statuses.Status.TheVariants as status

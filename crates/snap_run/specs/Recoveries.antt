@@ -4,13 +4,13 @@ use Rattle.snap_outside.specs.Causes.{Rose}
 use Rattle.record_log.specs.txn_records.declared.records.Record.{Record}
 use Rattle.run_work.specs.run_recovery.Recoverable.{AreRecoverable}
 use Rattle.run_work.specs.run_opening.snap_recover.declared.causes.LogCause.{LogCause}
-use Rattle.log_opening.specs.log_compact.declared.folds.Folded.{Folded}
-use Rattle.log_opening.specs.log_compact.Sets.{IsFolded}
+use Rattle.log_following.specs.log_opening.log_compact.declared.folds.Folded.{Folded}
+use Rattle.log_following.specs.log_opening.log_compact.Sets.{IsFolded}
 use Rattle.snap_report.specs.Lines.{actors_text, all_kept_text, recovered_text}
 use Rattle.snap_report.specs.declared.statuses.Status.{Status}
 use Rattle.snap_report.specs.declared.statuses.Status.TheVariants as status
-use Rattle.log_opening.specs.Devices.{Device, device_at, AreOpened, LacksMemory}
-use Rattle.log_opening.specs.Kept.{AreGiven, IsLogRefused, HasFailedDevice}
+use Rattle.log_following.specs.log_opening.Devices.{Device, device_at, AreOpened, LacksMemory}
+use Rattle.log_following.specs.log_opening.Kept.{AreGiven, IsLogRefused, HasFailedDevice}
 use Rattle.snap_run.specs.Uses.{Use}
 use Rattle.run_work.specs.Writings.{Writing, WritesNothing, Writes, WritesFront}
 use Rattle.command_words.specs.Words.{IsRecover}

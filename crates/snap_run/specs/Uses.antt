@@ -2,7 +2,7 @@
 use Rattle.std.specs.Prelude.{ℕ, List, Option}
 use Rattle.std.specs.Global.{Vec}
 use Rattle.run_work.specs.core_events.declared.events.Event.{Event}
-use Rattle.log_opening.specs.Devices.{Device}
+use Rattle.log_following.specs.log_opening.Devices.{Device}
 use Rattle.run_work.specs.Calls.{CallState, call_of, written}
 use Rattle.run_work.specs.Writings.{Writing}
 use Rattle.snap_outside.specs.declared.devices.LogDev.{Ghosts as DeviceTells}

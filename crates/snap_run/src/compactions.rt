@@ -1,7 +1,7 @@
 //! The command that writes a checkpoint in place of old records.
 ghost use Rattle.std.specs.Prelude.{◌≡◌, ◌≢◌, vec_len};
 ghost use Rattle.log_compaction.specs.Crashes.{CompactsSafely};
-ghost use Rattle.log_opening.specs.Devices.{devices_of};
+ghost use Rattle.log_following.specs.log_opening.Devices.{devices_of};
 ghost use Rattle.run_work.specs.Writings.{writing_of};
 ghost use Rattle.snap_outside.specs.Causes.{EndsAtFault};
 ghost use Rattle.snap_run.specs.Compactions.{IsCompactAnswer};

@@ -10,6 +10,7 @@ ghost use Rattle.snap_report.specs.declared.statuses.Status.TheVariants as statu
 ghost use Rattle.snap_run.specs.Answers.{IsUntroubled, IsPrintable, MayBeMeasured};
 ghost use Rattle.snap_run.specs.Audits.{IsAuditable};
 ghost use Rattle.snap_run.specs.Compactions.{IsCompactable};
+ghost use Rattle.snap_run.specs.Followings.{IsFollowable};
 ghost use Rattle.snap_run.specs.Migrations.{IsMigratable};
 ghost use Rattle.snap_run.specs.Outcomes.{IsOutcome};
 ghost use Rattle.snap_run.specs.Recoveries.{IsRecoverable};
@@ -21,6 +22,7 @@ ghost use Rattle.record_log.specs.txn_records.declared.records.Record.{Record};
 
 use command_words::one_command;
 use input_laws::{an_input_in_order_has_no_fault, one_first_fault};
+use log_following::{folded_are_followed, read_is_opened};
 use log_migration::{
     damage_is_no_log, fronts_tell, one_difference, one_fold, one_front, one_list, one_use,
     refused_are_not_folded,
@@ -53,6 +55,7 @@ pub(crate) fn done_or_no_memory()
     ensures complete_recover { (u : Use) (s : Status) (kept : List (List Record)) → IsOutcome u s → IsRecoverable u kept → (s ≡ status.Done) ⊎ (s ≡ status.Memory) }
     ensures complete_migrate { (u : Use) (s : Status) (kept : List (List Record)) → IsOutcome u s → IsMigratable u kept → (s ≡ status.Done) ⊎ (s ≡ status.Memory) }
     ensures complete_compact { (u : Use) (s : Status) (kept : List (List Record)) → IsOutcome u s → IsCompactable u kept → (s ≡ status.Done) ⊎ (s ≡ status.Memory) }
+    ensures complete_follow { (u : Use) (s : Status) (kept : List (List Record)) → IsOutcome u s → IsFollowable u kept → (s ≡ status.Done) ⊎ (s ≡ status.Memory) }
     ensures complete_gen { (u : Use) (s : Status) → IsOutcome u s → IsPrintable u → (s ≡ status.Done) ⊎ (s ≡ status.Memory) }
     ensures complete_audit { (u : Use) (s : Status) (input : List ℕ)
         → IsOutcome u s → IsAuditable u input → IsInOrder input → ¬ Rose u.writing.faults_before u.writing.faults_after → (s ≡ status.Done) ⊎ (s ≡ status.Memory) }
@@ -75,4 +78,6 @@ pub(crate) fn done_or_no_memory()
     no_more_records();
     an_input_in_order_has_no_fault();
     one_first_fault();
+    folded_are_followed();
+    read_is_opened();
 }

@@ -5,6 +5,7 @@ mod audits;
 mod compactions;
 mod crews;
 mod endings;
+mod followings;
 mod migrations;
 mod recoveries;
 mod solo;

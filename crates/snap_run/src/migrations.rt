@@ -1,7 +1,7 @@
 //! The command that makes those logs in use that are of format 1 ones of format 2.
 ghost use Rattle.std.specs.Prelude.{◌≡◌, ◌≢◌, vec_len};
 ghost use Rattle.std.specs.List.{AllZip};
-ghost use Rattle.log_opening.specs.Devices.{Device, devices_of};
+ghost use Rattle.log_following.specs.log_opening.Devices.{Device, devices_of};
 ghost use Rattle.record_log.specs.Records.{KeepsRecords};
 ghost use Rattle.run_work.specs.Writings.{writing_of};
 ghost use Rattle.snap_outside.specs.Causes.{EndsAtFault};

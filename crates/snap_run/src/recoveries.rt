@@ -2,14 +2,14 @@
 ghost use Rattle.std.specs.Prelude.{◌≡◌, ◌≢◌, ◌≤◌, ◌++◌, length, vec_len, IfOk, OnOk, string_bytes};
 ghost use Rattle.std.specs.List.{AllZip};
 ghost use Rattle.record_log.specs.Records.{KeepsRecords};
-ghost use Rattle.log_opening.specs.Devices.{Device, devices_of, IsOpenedAtMost};
+ghost use Rattle.log_following.specs.log_opening.Devices.{Device, devices_of, IsOpenedAtMost};
 ghost use Rattle.snap_outside.specs.Causes.{EndsAtFault};
 ghost use Rattle.snap_report.specs.Lines.{actors_text, all_kept_text, batch_text, kept_text, lines_of, pact_place, act_place};
 ghost use Rattle.run_work.specs.Writings.{writing_of};
 ghost use Rattle.snap_run.specs.Recoveries.{recovered_report, IsRecoverAnswer};
 
+use log_following::{Folded, recover_kept};
 use log_migration::Kept;
-use log_opening::{Folded, recover_kept};
 use run_work::{ActorId, Bid, Memory, Place, State, Tid, push_actor, status_of, write_all};
 use snap_outside::{LogDev, Sink};
 use snap_report::{Status, kept_line, recovered_line};
@@ -56,7 +56,7 @@ fn report_of(alloc: Global, folded: &Folded) -> Result<String, Memory>
 }
 
 /// Adds the lines of the actors, which have these states.
-fn push_actors(alloc: Global, text: &mut String, states: &[State]) -> Result<(), Memory>
+pub(crate) fn push_actors(alloc: Global, text: &mut String, states: &[State]) -> Result<(), Memory>
     requires { length states.now ≤ 256 }
     ensures { OnOk result (string_bytes text.new ≡ string_bytes text.old ++ actors_text 0 states.now) }
 {

@@ -11,6 +11,7 @@ ghost use Rattle.snap_report.specs.declared.statuses.Status.TheVariants as statu
 ghost use Rattle.snap_run.specs.Answers.{IsUntroubled, IsPrintable, IsMeasured, MayBeMeasured, GetsNoCall};
 ghost use Rattle.snap_run.specs.Audits.{IsAuditable};
 ghost use Rattle.snap_run.specs.Compactions.{IsCompactable};
+ghost use Rattle.snap_run.specs.Followings.{IsFollowable};
 ghost use Rattle.snap_run.specs.Migrations.{IsMigratable};
 ghost use Rattle.snap_run.specs.Outcomes.{IsOutcome};
 ghost use Rattle.snap_run.specs.Recoveries.{IsRecoverable};
@@ -24,6 +25,7 @@ ghost use Rattle.record_log.specs.txn_records.declared.records.Record.{Record};
 use crate::audits::print_audit;
 use crate::compactions::print_compacted;
 use crate::endings::{Outcome, done_or_no_memory};
+use crate::followings::print_followed;
 use crate::migrations::print_migrated;
 use crate::recoveries::print_recovered;
 use crate::works::{generated_work, print_generated, read_work};
@@ -38,7 +40,8 @@ use work_gen::one_work;
 /// goes on from what the logs in use hold, writes the records of the run there, prints its replies and its end to `out`, and
 /// at last a line of each event to `trace`. `audit` reads the papers of a run and says whether they are in order. The other
 /// commands read no input: `recover` prints what the logs in use recover to, `migrate` makes those of format 1 ones of format 2,
-/// `compact` writes a checkpoint in place of their records, `gen` prints a generated text, and `bench` runs one as `run` runs
+/// `compact` writes a checkpoint in place of their records, `follow` reads them so many times beside a run and prints what a
+/// follower of them has then, `gen` prints a generated text, and `bench` runs one as `run` runs
 /// its input, but prints the summary of the run alone. The words ask for no workers. Each refusal is a status of the outcome. It
 /// returns.
 pub fn run_solo<I: Source, D: LogDev, O: Sink, T: Sink>(
@@ -66,6 +69,9 @@ pub fn run_solo<I: Source, D: LogDev, O: Sink, T: Sink>(
     // Where nothing stands in the way of compacting, a checkpoint is written in place of old records, or there is no memory.
     ensures complete_compact { let u : Use = use_by I.Source D.LogDev O.Sink T.Sink (map string_bytes words.now) input.old input.new logs out trace result in
         (kept : List (List Record)) → IsCompactable u kept → (result.status ≡ status.Done) ⊎ (result.status ≡ status.Memory) }
+    // Where nothing stands in the way of following, what the follower has is printed, or there is no memory.
+    ensures complete_follow { let u : Use = use_by I.Source D.LogDev O.Sink T.Sink (map string_bytes words.now) input.old input.new logs out trace result in
+        (kept : List (List Record)) → IsFollowable u kept → (result.status ≡ status.Done) ⊎ (result.status ≡ status.Memory) }
     // Where the output takes it, a generated text is printed, or there is no memory.
     ensures complete_gen { let u : Use = use_by I.Source D.LogDev O.Sink T.Sink (map string_bytes words.now) input.old input.new logs out trace result in
         IsPrintable u → (result.status ≡ status.Done) ⊎ (result.status ≡ status.Memory) }
@@ -148,6 +154,15 @@ fn answer<I: Source, D: LogDev, O: Sink, T: Sink>(
         Ok(Command::Compact) => {
             let mut call = call;
             let status = print_compacted(alloc, &mut call.logs, &mut call.out);
+            HasRun {
+                kept: Vec::new(alloc),
+                status,
+                call,
+            }
+        }
+        Ok(Command::Follow { rounds }) => {
+            let mut call = call;
+            let status = print_followed(alloc, rounds, &mut call.logs, &mut call.out);
             HasRun {
                 kept: Vec::new(alloc),
                 status,

@@ -12,9 +12,10 @@ returns c =
     let recover : (c.as_str-word.result.now ≡ codes "recover" → ⊥) = search rules in
     let migrate : (c.as_str-word.result.now ≡ codes "migrate" → ⊥) = search rules in
     let compact : (c.as_str-word.result.now ≡ codes "compact" → ⊥) = search rules in
+    let follow : (c.as_str-word.result.now ≡ codes "follow" → ⊥) = search rules in
     let audit : (c.as_str-word.result.now ≡ codes "audit" → ⊥) = search rules in
     let gen : (c.as_str-word.result.now ≡ codes "gen" → ⊥) = search rules in
     let bench : (c.as_str-word.result.now ≡ codes "bench" → ⊥) = search rules in
     rw c.in-Some.ensures.cases.0
-    (first_wrong _ _ (λ e. run (c.as_str-word.ensures.value ∙ e)) (λ e. recover (c.as_str-word.ensures.value ∙ e)) (λ e. migrate (c.as_str-word.ensures.value ∙ e)) (λ e. compact (c.as_str-word.ensures.value ∙ e)) (λ e. audit (c.as_str-word.ensures.value ∙ e))
-    (λ e. gen (c.as_str-word.ensures.value ∙ e)) (λ e. bench (c.as_str-word.ensures.value ∙ e)))
+    (first_wrong _ _ (λ e. run (c.as_str-word.ensures.value ∙ e)) (λ e. recover (c.as_str-word.ensures.value ∙ e)) (λ e. migrate (c.as_str-word.ensures.value ∙ e)) (λ e. compact (c.as_str-word.ensures.value ∙ e))
+    (λ e. follow (c.as_str-word.ensures.value ∙ e)) (λ e. audit (c.as_str-word.ensures.value ∙ e)) (λ e. gen (c.as_str-word.ensures.value ∙ e)) (λ e. bench (c.as_str-word.ensures.value ∙ e)))

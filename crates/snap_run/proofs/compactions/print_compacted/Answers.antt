@@ -3,7 +3,7 @@ use Rattle.std.proofs.KnownBytes.{Keeps-refl}
 use Rattle.std.proofs.lemmas.List.{length-map}
 use Rattle.log_compaction.specs.Compacted.{IsNoCompaction}
 use Rattle.log_compaction.specs.declared.refusals.CompactNo.{CompactNo}
-use Rattle.log_opening.specs.Devices.{devices_of}
+use Rattle.log_following.specs.log_opening.Devices.{devices_of}
 use Rattle.run_work.specs.Writings.{Writing, Writes, WritesFront, writing_of}
 use Rattle.snap_run.proofs.Recovering.{compaction_refused}
 use Rattle.snap_run.proofs.compactions.print_compacted.Goals as goal

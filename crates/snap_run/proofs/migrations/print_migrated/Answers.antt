@@ -1,6 +1,6 @@
 use Rattle.std.proofs.Common.{◌∙◌, subst, rules}
 use Rattle.std.proofs.KnownBytes.{Keeps-refl}
-use Rattle.log_opening.specs.Devices.{devices_of}
+use Rattle.log_following.specs.log_opening.Devices.{devices_of}
 use Rattle.run_work.specs.Writings.{Writing, Writes, WritesFront, writing_of}
 use Rattle.snap_run.proofs.Recovering.{migration_refused}
 use Rattle.snap_run.proofs.migrations.print_migrated.Goals as goal

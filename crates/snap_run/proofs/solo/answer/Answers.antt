@@ -1,9 +1,9 @@
-use Rattle.std.proofs.Common.{ℕ, map, refl, subst}
+use Rattle.std.proofs.Common.{ℕ, map, refl, subst, arith}
 use Rattle.std.proofs.KnownBytes.{Keeps-refl}
 use Rattle.std.specs.Prelude.{string_bytes}
 use Rattle.run_work.specs.Calls.{CallState, call_of}
 use Rattle.run_work.specs.Runs.{OutStood}
-use Rattle.snap_run.proofs.Outcomes.{asked, audit_outcome, usage_outcome, recover_outcome, migrate_outcome, compact_outcome, compact_calls, run_not_compact, bench_not_compact, gen_outcome, bench_outcome, run_not_audit, bench_not_audit, run_not_gen, run_not_bench, gen_not_bench, same_measure}
+use Rattle.snap_run.proofs.Outcomes.{asked, audit_outcome, usage_outcome, recover_outcome, migrate_outcome, compact_outcome, compact_calls, run_not_compact, bench_not_compact, follow_outcome, follow_calls, run_not_follow, bench_not_follow, gen_outcome, bench_outcome, run_not_audit, bench_not_audit, run_not_gen, run_not_bench, gen_not_bench, same_measure}
 use Rattle.snap_run.proofs.solo.answer.Goals as goal
 use Rattle.snap_outside.proofs.AtFault.{surely}
 use Rattle.snap_outside.specs.Causes.{EndsAtFault}
@@ -75,6 +75,36 @@ returns-in-Ok-Compact-clause-opens_bench g c = λ count seed workers w records o
 
 pub returns-in-Ok-Compact-clause-untouched : goal.returns-in-Ok-Compact-clause-untouched
 returns-in-Ok-Compact-clause-untouched g c = λ none. let end = c.print_compacted-status in absurd (compact_calls _ _ _ end.result end.ensures.answer none)
+
+-- ---- the logs are followed
+
+pub print_followed-status-requires-clause-some : goal.print_followed-status-requires-clause-some
+print_followed-status-requires-clause-some g c =
+    let own = subst (λ (k : Command). IsCommand (map string_bytes c.args.words.now) k) c.in-Ok-Follow.field-0-is c.in-Ok-Follow.ensures in
+    omega (arith, own.1)
+
+pub returns-in-Ok-Follow-clause-outcome : goal.returns-in-Ok-Follow-clause-outcome
+returns-in-Ok-Follow-clause-outcome g c =
+    let words = map string_bytes c.args.words.now in
+    let reading = reading_of g.I.Source c.args.input.now c.args.input.now in
+    let call = c.call-in-Ok-Follow.inside in
+    let end = c.print_followed-status in
+    let kept = c.new-in-Ok-Follow.result.items in
+    let before : CallState g.row.D.Denot g.row.T.Denot = call_of g.D.LogDev g.O.Sink g.T.Sink call.logs call.out call.trace in
+    let after : CallState g.row.D.Denot g.row.T.Denot = call_of g.D.LogDev g.O.Sink g.T.Sink end.new.devices end.new.out call.trace in
+    subst (λ (x : CallState g.row.D.Denot g.row.T.Denot). IsOutcome (use_of words reading x after kept) end.result) c.call-in-Ok-Follow.view_is
+    (follow_outcome c.one_command.ensures (use_of words reading before after kept) c.in-Ok-Follow.rounds end.result (subst (λ (k : Command). IsCommand words k) c.in-Ok-Follow.field-0-is c.in-Ok-Follow.ensures) (Keeps-refl _) c.new-in-Ok-Follow.ensures.items (Keeps-refl _) end.ensures.untouched end.ensures.answer)
+
+pub returns-in-Ok-Follow-clause-opens : goal.returns-in-Ok-Follow-clause-opens
+returns-in-Ok-Follow-clause-opens g c = λ text w records o t.
+    absurd (run_not_follow c.one_command.ensures _ t.run.0 t.run.1 c.in-Ok-Follow.rounds t.run.2 (subst (λ (k : Command). IsCommand (map string_bytes c.args.words.now) k) c.in-Ok-Follow.field-0-is c.in-Ok-Follow.ensures))
+
+pub returns-in-Ok-Follow-clause-opens_bench : goal.returns-in-Ok-Follow-clause-opens_bench
+returns-in-Ok-Follow-clause-opens_bench g c = λ count seed workers w records o bench may.
+    absurd (bench_not_follow c.one_command.ensures _ count seed workers c.in-Ok-Follow.rounds bench (subst (λ (k : Command). IsCommand (map string_bytes c.args.words.now) k) c.in-Ok-Follow.field-0-is c.in-Ok-Follow.ensures))
+
+pub returns-in-Ok-Follow-clause-untouched : goal.returns-in-Ok-Follow-clause-untouched
+returns-in-Ok-Follow-clause-untouched g c = λ none. let end = c.print_followed-status in absurd (follow_calls _ _ _ _ end.result end.ensures.answer none)
 
 -- ---- the input is audited
 
@@ -189,6 +219,14 @@ pub returns-in-Ok-Compact-clause-out_once : goal.returns-in-Ok-Compact-clause-ou
 returns-in-Ok-Compact-clause-out_once g c =
     let end = c.print_compacted-status in
     subst (λ (x : CallState g.row.D.Denot g.row.T.Denot). EndsAtFault (OutStood end.result) x.output.faults x.output.late (g.O.Sink.faults end.new.out) (g.O.Sink.late end.new.out)) c.call-in-Ok-Compact.view_is
+    (surely _ _ _ _ (λ stood. stood.0) end.ensures.once)
+
+-- ---- the logs are followed, and the output gets no call behind one that failed
+
+pub returns-in-Ok-Follow-clause-out_once : goal.returns-in-Ok-Follow-clause-out_once
+returns-in-Ok-Follow-clause-out_once g c =
+    let end = c.print_followed-status in
+    subst (λ (x : CallState g.row.D.Denot g.row.T.Denot). EndsAtFault (OutStood end.result) x.output.faults x.output.late (g.O.Sink.faults end.new.out) (g.O.Sink.late end.new.out)) c.call-in-Ok-Follow.view_is
     (surely _ _ _ _ (λ stood. stood.0) end.ensures.once)
 
 -- ---- the words are no form

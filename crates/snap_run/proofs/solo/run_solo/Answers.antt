@@ -6,6 +6,7 @@ use Rattle.snap_run.specs.Answers.{IsUntroubled, IsPrintable, MayBeMeasured}
 use Rattle.snap_outside.specs.Causes.{Rose}
 use Rattle.snap_run.specs.Audits.{IsAuditable}
 use Rattle.snap_run.specs.Compactions.{IsCompactable}
+use Rattle.snap_run.specs.Followings.{IsFollowable}
 use Rattle.snap_run.specs.Migrations.{IsMigratable}
 use Rattle.snap_run.specs.Outcomes.{IsOutcome}
 use Rattle.snap_run.specs.Recoveries.{IsRecoverable}
@@ -43,6 +44,14 @@ returns-clause-complete_compact g c = λ kept may.
     let words = map string_bytes c.args.words.now in
     let reading = reading_of g.I.Source c.args.input.now end.new.input in
     c.done_or_no_memory.ensures.complete_compact _ end.result.status kept end.ensures.outcome (subst (λ (x : CallState g.row.D.Denot g.row.T.Denot). IsCompactable (use_of words reading before x end.result.kept.items) kept) c.call.view_is may)
+
+pub returns-clause-complete_follow : goal.returns-clause-complete_follow
+returns-clause-complete_follow g c = λ kept may.
+    let end = c.answer-kept in
+    let before : CallState g.row.D.Denot g.row.T.Denot = call_of g.D.LogDev g.O.Sink g.T.Sink c.args.logs c.args.out c.args.trace in
+    let words = map string_bytes c.args.words.now in
+    let reading = reading_of g.I.Source c.args.input.now end.new.input in
+    c.done_or_no_memory.ensures.complete_follow _ end.result.status kept end.ensures.outcome (subst (λ (x : CallState g.row.D.Denot g.row.T.Denot). IsFollowable (use_of words reading before x end.result.kept.items) kept) c.call.view_is may)
 
 pub returns-clause-complete_gen : goal.returns-clause-complete_gen
 returns-clause-complete_gen g c = λ may.
