@@ -3,13 +3,12 @@ use Rattle.std.specs.Prelude.{◌≡◌, refl, ℕ, zero, suc, ◌+◌, ◌-◌,
 use Rattle.std.specs.List.{AllByRecursion, list_any}
 use Rattle.std.proofs.Common.{arith, sym, ap, subst, mod-lt, inl, inr, ◌∙◌, append_assoc}
 use Rattle.std.proofs.lemmas.Bool.{true≢false, eq-eqb}
-use Rattle.std.proofs.lemmas.List.Concat.{flat_map-append}
 use Rattle.snap_base.specs.declared.ids.Bid.{Bid}
 use Rattle.snap_base.specs.declared.transactions.State.{State}
 use Rattle.snap_base.proofs.Lists.{all_join, all_front, all_back}
 use Rattle.protocol.specs.Fixed.{Opening}
 use Rattle.protocol.specs.Records as machine
-use Rattle.protocol.specs.Records.{LogRecord, is_info, is_commit, is_act_commit}
+use Rattle.protocol.specs.Records.{LogRecord, is_info, is_commit}
 use Rattle.protocol.specs.Parts.{OfBatch, OfAct}
 use Rattle.protocol.specs.Words.{count}
 use Rattle.protocol_laws.proofs.first.Lists.{any_front}
@@ -19,22 +18,18 @@ use Rattle.protocol_records.specs.SeveralRuns.{CutRun}
 use Rattle.followed_runs.specs.FollowingRuns.{RunsReading, runs_read, runs_before, InEveryRunsRound, RecordsReadOnce}
 use Rattle.txn_records.specs.declared.records.Record.{Record}
 use Rattle.txn_records.specs.declared.records.Record.TheVariants.{Genesis}
-use Rattle.txn_records.specs.declared.keys.Key.{Key}
 use Rattle.snap_recover.specs.declared.openings.Opening as recovery
-use Rattle.snap_recover.specs.declared.refusals.RecoverNo.TheVariants as refusals
 use Rattle.snap_recover.specs.Logs.{all_of, geneses}
 use Rattle.snap_recover.specs.Opening.{IsIn, HasItsValues, IsInRange, IsRecovered}
-use Rattle.snap_recover.specs.Refusals.{IsFirstOutOfRange, IsRefused}
-use Rattle.snap_recover.proofs.Lists.{all_middle}
-use Rattle.snap_recover.proofs.OneRefusal.{lacks_is_not_whole, act_lacks_is_not_whole, lacks_values_has_not}
 use Rattle.log_set.specs.Told.{all_told}
 use Rattle.recovery_laws.specs.Grown.{grown_from, grown}
 use Rattle.recovery_laws.specs.Joined.{AtEveryMomentFrom, RecoversFrom}
 use Rattle.recovery_laws.proofs.WrittenLists.{written_join, grown_length, grown_genesis}
 use Rattle.log_compact.specs.Sets.{plain_lists}
 use Rattle.snap_follow.specs.declared.refusals.FollowNo.{FollowNo}
-use Rattle.snap_follow.specs.declared.refusals.FollowNo.TheVariants.{Back, TwoGenesis, LogCount, Range, Missing, Values, Memory}
-use Rattle.snap_follow.specs.Refusals.{IsFirstSeenLacking, IsNotFollowed}
+use Rattle.snap_follow.specs.declared.refusals.FollowNo.TheVariants.{Memory}
+use Rattle.snap_follow.specs.Refusals.{IsNotFollowed}
+use Rattle.snap_follow.specs.Laws.{RefusedForMemoryAlone}
 use Rattle.snap_follow.specs.Rounds.{Following, StartsWith, list_at, GrowFrom, AreReadable, AreSeenWhole}
 use Rattle.followed_logs.specs.OnRecords.{AreOnLogs, in_first, Finding, lists_found, reading_of, IsLaterFinding, known_then, found_last, FollowersAreNotRefused}
 use Rattle.followed_logs.proofs.Written.{OnlyGenesis, in_commit}
@@ -43,46 +38,6 @@ use Rattle.followed_logs.proofs.Found.{Found, found_then, nothing_at, was_read}
 use Rattle.followed_logs.proofs.Behind.{all_left, all_recovered}
 use Rattle.followed_logs.proofs.LaterReads.{ReadLater, reads}
 use Rattle.followed_logs.proofs.Whole.{batch_whole, act_whole, its_values, any_middle}
-
--- ---- what is readable, grows and is whole is not refused
-
-in_range_all : (n : ℕ) (logs : List (List Record)) (r : Record) (k : ℕ) → IsFirstOutOfRange n logs r k → ¬ AllByRecursion (IsInRange n) (all_of logs)
-in_range_all n logs r k (b, a, f, h, e, at, i, o) all =
-    let apart : AllByRecursion (IsInRange n) (all_of b ++ all_of ((f ++ r ∷ h) ∷ a)) =
-    subst (AllByRecursion (IsInRange n)) (flat_map-append (λ (rs : List Record). rs) b ((f ++ r ∷ h) ∷ a)) (subst (λ (z : List (List Record)). AllByRecursion (IsInRange n) (all_of z)) e all) in
-    let behind = all_back (IsInRange n) (all_of b) (all_of ((f ++ r ∷ h) ∷ a)) apart in
-    o (all_middle (IsInRange n) f r h (all_front (IsInRange n) (f ++ r ∷ h) (all_of a) behind))
-
-not_two : (lists : List (List Record)) → AreReadable lists → IsRefused lists refusals.TwoGenesis → ⊥
-not_two lists (inl none) two = absurd (omega (arith, ap (λ (z : List Record). length z) none, two))
-not_two lists (inr (first, b)) two = absurd (omega (arith, ap (λ (z : List Record). length z) b.one, two))
-
-not_count : (lists : List (List Record)) (kept found : ℕ) → AreReadable lists → IsRefused lists (refusals.LogCount kept found) → ⊥
-not_count lists kept found (inl none) (first, one, size, differ) = let bad : [] ≡ Genesis kept first ∷ [] = sym none ∙ one in absurd (cc bad)
-not_count lists kept found (inr (given, b)) (first, one, size, differ) =
-    let same : Genesis (length lists) given ∷ [] ≡ Genesis kept first ∷ [] = sym b.one ∙ one in
-    let many : length lists ≡ kept = cc same in
-    differ (sym many ∙ sym size)
-
-not_range : (lists : List (List Record)) (k : Key) (log : ℕ) → AreReadable lists → IsRefused lists (refusals.Range k log) → ⊥
-not_range lists k log (inl none) (first, r, one, bad, e) = let no : [] ≡ Genesis (length lists) first ∷ [] = sym none ∙ one in absurd (cc no)
-not_range lists k log (inr (given, b)) (first, r, one, bad, e) =
-    let same : Genesis (length lists) first ∷ [] ≡ Genesis (length lists) given ∷ [] = sym one ∙ b.one in
-    let states : first ≡ given = cc same in
-    in_range_all (length given) lists r log (subst (λ (z : List State). IsFirstOutOfRange (length z) lists r log) states bad) b.range
-
-not_lacking : (before now : List (List Record)) (k : Key) (log : ℕ) → AreSeenWhole before now → IsFirstSeenLacking before now k log → ⊥
-not_lacking before now k log w (inl p) = lacks_is_not_whole now p.0 k log p.3 (w.batches p.0 p.1)
-not_lacking before now k log w (inr p) = act_lacks_is_not_whole now p.1.0 k log p.1.3 (w.acts p.1.0 p.1.1)
-
-not_refused : (before lists : List (List Record)) (no : FollowNo) → GrowFrom before lists → AreReadable (plain_lists lists) → AreSeenWhole (plain_lists before) (plain_lists lists) → IsNotFollowed before lists no → no ≡ Memory
-not_refused before lists (Back log) grow readable whole h = absurd (h.is_back (grow log h.low))
-not_refused before lists TwoGenesis grow readable whole h = absurd (not_two (plain_lists lists) readable h.1)
-not_refused before lists (LogCount kept found) grow readable whole h = absurd (not_count (plain_lists lists) kept found readable h.1)
-not_refused before lists (Range k log) grow readable whole h = absurd (not_range (plain_lists lists) k log readable h.1)
-not_refused before lists (Missing k log) grow readable whole h = absurd (not_lacking (plain_lists before) (plain_lists lists) k log whole h.2)
-not_refused before lists (Values k log kept found) grow readable whole h = absurd (lacks_values_has_not (plain_lists lists) h.3.0 k log kept found h.3.3 (whole.valued h.3.0 h.3.1))
-not_refused before lists Memory grow readable whole h = refl
 
 -- ---- what holds of longer lists
 
@@ -101,7 +56,7 @@ all_shorter P n (rs ∷ rss) logs all g h =
 abbrev pub Behind : {C : Type 0} → ℕ → Opening → List (CutRun C) → Type 0
 Behind many o xs = (q : recovery.Opening) × IsRecovered (grown (plain_front many o.states true) (runs_read xs (all_left xs))) q
 
-module _ {C : Type 0} (many : ℕ) (o : Opening) (front : List Record) (xs : List (CutRun C)) (g : AreOnLogs many o front xs) (once : RecordsReadOnce C) (behind : Behind many o xs) where
+module _ {C : Type 0} (many : ℕ) (o : Opening) (front : List Record) (xs : List (CutRun C)) (g : AreOnLogs many o front xs) (once : RecordsReadOnce C) (behind : Behind many o xs) (alone : RefusedForMemoryAlone) where
   genesis_behind : geneses (grown (plain_front many o.states true) (runs_read xs (all_left xs))) ≡ Genesis many o.states ∷ []
   genesis_behind = grown_genesis 0 (plain_front many o.states true) (runs_read xs (all_left xs)) ∙ front_genesis many o.states true
 
@@ -187,7 +142,7 @@ module _ {C : Type 0} (many : ℕ) (o : Opening) (front : List Record) (xs : Lis
 
   pub unrefused : (f : Following) (before : Option (Finding xs)) (now : Finding xs) (no : FollowNo) → Found many front xs f before → IsLaterFinding xs before now → ReadLater many xs (runs_before xs (reading_of xs before)) now.reading
       → IsNotFollowed f.before (lists_found many front xs now) no → no ≡ Memory
-  unrefused f before now why h later r = not_refused f.before (lists_found many front xs now) why (grow f before now h later r) (readable f before now r) (whole f before now h r)
+  unrefused f before now why h later r = alone f.before (lists_found many front xs now) why (grow f before now h later r) (readable f before now r) (whole f before now h r)
 
 -- what recovery promises of logs that hold Genesis alone
 abbrev pub Begun : Type 0
@@ -204,9 +159,9 @@ behind_all law begun many o front xs g =
     all_recovered law many (plain_front many o.states true) o first xs long g.same_logs g.go_on (begun many others o.states (omega (arith, long)) (others_none (many - 1)))
     refl (omega arith) (omega arith) (omega arith)
 
-pub followers_not_refused : {C : Type 0} → InEveryRunsRound C → RecordsReadOnce C → AtEveryMomentFrom (RecoversFrom {C = C}) → Begun → FollowersAreNotRefused C
-followers_not_refused law once recovers begun many o front xs f ys next why g new h later =
+pub followers_not_refused : {C : Type 0} → InEveryRunsRound C → RecordsReadOnce C → AtEveryMomentFrom (RecoversFrom {C = C}) → Begun → RefusedForMemoryAlone → FollowersAreNotRefused C
+followers_not_refused law once recovers begun alone many o front xs f ys next why g new h later =
     let before = found_last xs None ys in
-    unrefused many o front xs g once (behind_all recovers begun many o front xs g) (known_then xs f ys) before next why
+    unrefused many o front xs g once (behind_all recovers begun many o front xs g) alone (known_then xs f ys) before next why
     (found_then many front xs f None ys new.nothing h) later
     (reads law many o xs (reading_of xs before) next.reading g.some_actors g.same_logs g.go_on later.later)

@@ -4,6 +4,7 @@ ghost use Rattle.followed_logs.specs.OnRecords.{FollowersAreNotRefused, Follower
 
 use followed_runs::{followers_go_on_behind_runs, records_are_read_once};
 use recovery_laws::logs_recover_from_greater_numbers;
+use snap_follow::refused_for_memory_alone;
 use snap_recover::begun_logs_are_recovered;
 
 /// Of runs one behind the other, whatever the rounds of a follower find on their devices, and when, where nothing that was read is
@@ -22,4 +23,5 @@ pub fn followers_are_not_refused<C>()
     records_are_read_once::<C>();
     logs_recover_from_greater_numbers::<C>();
     begun_logs_are_recovered();
+    refused_for_memory_alone();
 }
