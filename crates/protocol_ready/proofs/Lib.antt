@@ -1,3 +1,4 @@
+pub mod Again
 pub mod AllListed
 pub mod Cited
 pub mod Listing

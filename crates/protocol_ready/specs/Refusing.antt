@@ -147,6 +147,10 @@ may_refuse e f = (is_abort e && not (is_reply f)) || is_in_reach e f
 
 -- ---- the laws
 
+-- An event that was just taken is not allowed right behind itself.
+abbrev pub RefusesItself : {C : Type 0} → Fixed C → Machine C → Type 0
+RefusesItself w s = (e : Event) → IsAllowed w e s → IsAllowed w e (after w e s) → ⊥
+
 -- What an event may not refuse, and is another one, stays allowed.
 abbrev pub KeepsOthers : {C : Type 0} → Fixed C → (C → List State → Alone) → List Event → Type 0
 KeepsOthers w finish es = (e f : Event) → IsAllowed w e (reached w es) → may_refuse e f ≡ false → (f ≡ e → ⊥) → IsAllowed w f (reached w es) → IsAllowed w f (after w e (reached w es))

@@ -12,4 +12,4 @@ pub use laws::{
     states_are_sound, unlooked_stay, untouched_stay,
 };
 pub use order::{events_stay_in_order, one_is_put, one_is_taken, ranks_are_in_order};
-pub use refusing::{out_of_reach_stay, renewed_are_enabled};
+pub use refusing::{no_event_is_allowed_again, out_of_reach_stay, renewed_are_enabled};
