@@ -2,3 +2,4 @@ pub mod Taking
 pub mod Owning
 pub mod Parts
 pub mod Numbers
+pub mod Filtering

@@ -1,11 +1,13 @@
 //! What a list of entries is asked. Each walks it once.
 ghost use Rattle.std.specs.Prelude.{◌≡◌, ℕ, max, not, find, take_while, length, map, option_copied};
 ghost use Rattle.std.specs.List.{list_any, list_all};
+ghost use Rattle.std.specs.Option.{option_map};
 ghost use Rattle.protocol.specs.Parts.{ActEntry};
 ghost use Rattle.protocol.specs.Words.{is_batch_entry, is_act_entry, is_entry_of, is_clear, is_turn_of, has_undone, has_act, has_entry, who_on, is_complete_batch, is_all_done, ahead, batches_on, greatest, tail_group};
 ghost use Rattle.protocol.specs.OnCell.{reads_on};
 ghost use Rattle.protocol.specs.Meant.{who_meant};
-ghost use Rattle.hybrid_schedule.specs.Schedules.{has_turn, is_incomplete, is_next_here, is_done_here, is_behind_no_act};
+ghost use Rattle.hybrid_schedule.specs.Listed.{completable_on, first_open};
+ghost use Rattle.hybrid_schedule.specs.Schedules.{has_turn, is_any_act, is_incomplete, is_next_here, is_done_here, is_behind_no_act};
 ghost use Rattle.hybrid_schedule.specs.Cuts.{staying_below, is_cut_off};
 
 use crate::entries::Entry;
@@ -129,6 +131,31 @@ pub fn is_done(entries: &[Entry], k: Bid) -> bool
         Some(own) => own.is_all_done(),
         None => false,
     }
+}
+
+/// The first entry that is not of a complete batch.
+fn first_open(entries: &[Entry]) -> Option<&Entry>
+    ensures { option_copied result ≡ first_open entries.now }
+{
+    entries.iter().find(|e| !e.is_complete())
+}
+
+/// The batch that can be completed: the first that is not, where nothing stands ahead of it but complete batches, and all its
+/// PACTs are done.
+pub fn completable(entries: &[Entry]) -> Option<Bid>
+    ensures { option_map (λ k. k.0) result ≡ completable_on entries.now }
+{
+    match first_open(entries) {
+        Some(open) => open.done_batch(),
+        None => None,
+    }
+}
+
+/// Whether an ACT stands there.
+pub fn has_acts(entries: &[Entry]) -> bool
+    ensures { result ≡ list_any is_any_act entries.now }
+{
+    entries.iter().any(|e| e.is_act())
 }
 
 /// Whether no ACT stands ahead of the batch.

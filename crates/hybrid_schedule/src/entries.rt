@@ -1,5 +1,6 @@
 //! One entry of a schedule: a sub-batch or an ACT.
 ghost use Rattle.std.specs.Prelude.{◌≡◌, ℕ, ◌-◌, ◌^◌, nat_lt, min, max, Bool, false, ◌∷◌, ◌++◌, [], not, map, OnOk};
+ghost use Rattle.std.specs.Option.{option_map};
 ghost use Rattle.protocol.specs.Left.{entry_left};
 ghost use Rattle.protocol.specs.Parts.{BatchEntry, ActEntry};
 ghost use Rattle.protocol.specs.Words.{is_batch_entry, is_act_entry, is_entry_of, who_of, is_reader_entry, is_complete_batch, is_turn_of, is_undone, is_all_done, batches_on, greatest};
@@ -7,7 +8,7 @@ ghost use Rattle.protocol.specs.OnCell.{done_in, complete_in};
 ghost use Rattle.protocol.specs.Meant.{tid_number, who_meant};
 ghost use Rattle.hybrid_schedule.specs.Schedules.{is_any_act};
 ghost use Rattle.hybrid_schedule.specs.Cuts.{is_batch_from};
-ghost use Rattle.hybrid_schedule.specs.Listed.{incomplete_of, rival_of, undone_of};
+ghost use Rattle.hybrid_schedule.specs.Listed.{done_bid, incomplete_of, rival_of, undone_if, undone_of};
 
 use crate::slots::Slots;
 use protocol::unless;
@@ -225,6 +226,32 @@ impl Entry {
         match self.owner {
             Who::Batch(_) => self.slots.list_undone(tids),
             Who::Act(_) => Ok(()),
+        }
+    }
+
+    /// Adds those of batch `k` that are not done.
+    pub fn list_undone_by(&self, k: Bid, tids: &mut Vec<Tid>) -> Result<(), Memory>
+        ensures { OnOk result (map tid_number tids.new.items ≡ map tid_number tids.old.items ++ undone_if (is_batch_entry k.0 self.now) self.now) }
+    {
+        if self.is_batch(k) {
+            self.list_undone(tids)?;
+        }
+        Ok(())
+    }
+
+    /// The batch that it is of, where all its PACTs are done.
+    pub fn done_batch(&self) -> Option<Bid>
+        ensures { option_map (λ k. k.0) result ≡ done_bid self.now }
+    {
+        match self.owner {
+            Who::Batch(bid) => {
+                if self.slots.are_done() {
+                    Some(bid)
+                } else {
+                    None
+                }
+            }
+            Who::Act(_) => None,
         }
     }
 

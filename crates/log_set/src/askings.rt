@@ -1,10 +1,10 @@
 //! What the conditions of the events ask of a log. Each answer is about whatever log the part shows.
-ghost use Rattle.std.specs.Prelude.{◌≡◌, nat_lt, length};
+ghost use Rattle.std.specs.Prelude.{◌≡◌, drop, length, map, nat_lt};
 ghost use Rattle.protocol.specs.Left.{log_left};
 ghost use Rattle.protocol.specs.Parts.{Log};
 ghost use Rattle.protocol.specs.Records.{is_info, is_complete, is_commit, is_prepare, is_act_commit};
 ghost use Rattle.protocol.specs.Words.{is_durable};
-ghost use Rattle.log_set.specs.Shown.{ShowsLog};
+ghost use Rattle.log_set.specs.Shown.{ShowsLog, told_key};
 
 use crate::LogPart;
 use snap_base::{ActorId, Bid, Tid};
@@ -24,6 +24,13 @@ impl LogPart {
         ensures shows { (l : Log) → ShowsLog self.now.log l → result ≡ log_left l }
     {
         self.pending.waiting()
+    }
+
+    /// The keys of the records that are not synced, in the order in which they were added: those that the next sync makes durable.
+    pub fn waiting_keys(&self) -> &[Key]
+        ensures { (l : Log) → ShowsLog self.now.log l → result.now ≡ map told_key (drop l.synced l.records) }
+    {
+        self.pending.waiting_keys()
     }
 
     /// Whether it is durable that the batch was formed.

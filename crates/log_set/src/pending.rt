@@ -1,5 +1,5 @@
 //! The records of one log by their keys: which are synced, and the bytes of the others.
-ghost use Rattle.std.specs.Prelude.{◌≡◌, ◌+◌, ◌<◌, ◌≤◌, length, IsOk, IfOk, OnOk, OnErr};
+ghost use Rattle.std.specs.Prelude.{◌≡◌, ◌+◌, ◌<◌, ◌≤◌, drop, length, IsOk, IfOk, OnOk, OnErr};
 ghost use Rattle.log_set.specs.Logs.{no_records, with_record, all_synced, is_key_durable};
 
 use crate::copies::copies_of;
@@ -101,6 +101,13 @@ impl Pending {
         ensures rest { self.now.log.synced + result ≡ length self.now.log.keys }
     {
         self.waiting.len()
+    }
+
+    /// The keys of the records that are not synced, in the order in which they were added.
+    pub fn waiting_keys(&self) -> &[Key]
+        ensures { result.now ≡ drop self.now.log.synced self.now.log.keys }
+    {
+        &self.keys.as_slice()[self.synced..]
     }
 
     /// A copy of the bytes of the records that are not synced, in the order in which they were added.

@@ -6,7 +6,7 @@ ghost use Rattle.protocol.specs.Words.{is_empty};
 ghost use Rattle.protocol.specs.Conditions.{queue, is_idle_at, is_idle};
 ghost use Rattle.protocol.specs.Left.{busy_from, total, way};
 ghost use Rattle.protocol.specs.OnRing.{passed, admitted, cut};
-ghost use Rattle.token_ring.specs.Asked.{fresh_ring, act_admitted_next, MayPass, IsSubmitted, IsNextBatch, IsPlanned, IsFormed};
+ghost use Rattle.token_ring.specs.Asked.{fresh_ring, act_admitted_next, first_waiting, MayPass, IsSubmitted, IsNextBatch, IsPlanned, IsFormed};
 
 use crate::FormNo;
 use crate::lasts::{forget, mark};
@@ -143,6 +143,20 @@ impl Ring {
         ensures { result ≡ not (is_empty (queue self.now.acts self.now.holder)) }
     {
         !self.acts[self.holder as usize].is_empty()
+    }
+
+    /// The first PACT that waits at the holder; `None` exactly where none does.
+    pub fn first_pact(&self) -> Option<TxNo>
+        ensures { result ≡ first_waiting (queue self.now.pacts self.now.holder) }
+    {
+        self.pacts[self.holder as usize].first()
+    }
+
+    /// The first ACT that waits at the holder; `None` exactly where none does.
+    pub fn first_act(&self) -> Option<TxNo>
+        ensures { result ≡ first_waiting (queue self.now.acts self.now.holder) }
+    {
+        self.acts[self.holder as usize].first()
     }
 
     /// Whether nothing waits at the holder.
