@@ -2,7 +2,7 @@
 //! parts at hand. So a hint for which there is no memory is left out, and a look finds the event again.
 ghost use Rattle.std.specs.Prelude.{◌≤◌};
 
-use crate::finds::{Finds, take_first};
+use crate::finds::{Finds, put_one, take_first};
 use crate::kinds::{Kind, kind_of};
 use core_events::{Event, FIRST_LOG, Footprint, footprint, part_of_log};
 use ready_list::ReadyList;
@@ -86,9 +86,7 @@ fn put_in(list: &Mutex<ReadyList>, e: Event) -> usize {
     let Some(mut list) = open(list) else {
         return 0;
     };
-    if list.room(1).is_ok() {
-        list.put(e);
-    }
+    let _kept = put_one(&mut list, e);
     list.count()
 }
 
@@ -143,11 +141,7 @@ impl Board {
         let Some(mut runs) = open(&self.runs) else {
             return false;
         };
-        if runs.room(1).is_err() {
-            return false;
-        }
-        runs.put(e);
-        true
+        put_one(&mut runs, e)
     }
 
     /// The first Run, which stands here no more; `None` where there is none, or another worker had the list.
@@ -181,9 +175,7 @@ impl Board {
             return true;
         };
         let before = blocked.count();
-        if blocked.room(1).is_ok() {
-            blocked.put(e);
-        }
+        let _kept = put_one(&mut blocked, e);
         before < blocked.count()
     }
 

@@ -30,11 +30,7 @@ impl Finds {
             Kind::Far | Kind::Sync => &mut self.far,
             Kind::Reply => &mut self.replies,
         };
-        if list.room(1).is_err() {
-            return false;
-        }
-        list.put(e);
-        true
+        put_one(list, e)
     }
 
     /// The first of them, which is left no more; `None` where there is none.
@@ -43,6 +39,15 @@ impl Finds {
             .or_else(|| take_first(&mut self.far))
             .or_else(|| take_first(&mut self.replies))
     }
+}
+
+/// Puts an event into the list. False where there was no memory for it.
+pub(crate) fn put_one(list: &mut ReadyList, e: Event) -> bool {
+    let Ok(()) = list.room(&[e]) else {
+        return false;
+    };
+    list.put(e);
+    true
 }
 
 /// The first event, which is taken out; `None` where there is none.

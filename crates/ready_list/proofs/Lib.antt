@@ -1,1 +1,4 @@
+pub mod AmongRings
 pub mod Gaps
+pub mod Reaches
+pub mod Roomed

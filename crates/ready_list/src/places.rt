@@ -1,80 +1,79 @@
 //! Where events stand in the order.
 
-ghost use Rattle.std.specs.Prelude.{◌≡◌};
+ghost use Rattle.std.specs.Prelude.{◌≡◌, ◌<◌};
 ghost use Rattle.core_events.specs.Meant.{event_meant};
-ghost use Rattle.protocol.specs.Schedule.{is_rank_below, rank};
-ghost use Rattle.ready_list.specs.Order.{is_before, kind_of, rank_of};
+ghost use Rattle.ready_list.specs.Order.{is_lower, is_same, kind_of, numbers};
 
 use core_events::Event;
 
-/// By kind, then by the first number, then by the second, which is 0 where there is none.
+/// The numbers of an event, by which those of one kind are ordered. The second is 0 where there is none.
 #[derive(Clone, Copy)]
 pub(crate) struct Place {
-    kind: u8,
     first: u64,
     second: u64,
 }
 
 impl Place {
-    /// Whether the first one stands before the other.
+    /// Whether an event with the first numbers stands before one of its kind with the others.
     pub(crate) fn is_below(&self, other: &Place) -> bool
-        ensures { result ≡ is_rank_below (rank_of self.now) (rank_of other.now) }
+        ensures { result ≡ is_lower self.now other.now }
     {
-        self.kind < other.kind
-            || (self.kind == other.kind
-                && (self.first < other.first
-                    || (self.first == other.first && self.second < other.second)))
+        self.first < other.first || (self.first == other.first && self.second < other.second)
+    }
+
+    /// Whether they are the same numbers.
+    pub(crate) fn is_same(&self, other: &Place) -> bool
+        ensures { result ≡ is_same self.now other.now }
+    {
+        self.first == other.first && self.second == other.second
     }
 }
 
-fn at(kind: u8, first: u64, second: u64) -> Place
-    ensures { result ≡ record { kind = kind; first = first; second = second } }
+fn at(first: u64, second: u64) -> Place
+    ensures { result ≡ record { first = first; second = second } }
 {
-    Place {
-        kind,
-        first,
-        second,
-    }
+    Place { first, second }
 }
 
-/// Where the event stands.
+/// Its numbers.
 pub(crate) fn place_of(e: Event) -> Place
-    ensures { rank_of result ≡ rank (event_meant e) }
+    ensures { result ≡ numbers (event_meant e) }
 {
     match e {
-        Event::Submit(n) => at(1, n.0 as u64, 0),
-        Event::Pass(c) => at(2, c as u64, 0),
-        Event::Form(k) => at(3, k.0, 0),
-        Event::Admit(t) => at(4, t.0, 0),
-        Event::Arrive(k, a) => at(5, k.0, a.0 as u64),
-        Event::Ask(t, a) => at(6, t.0, a.0 as u64),
-        Event::Take(t, a) => at(7, t.0, a.0 as u64),
-        Event::Run(t, a) => at(8, t.0, a.0 as u64),
-        Event::Send(t, a) => at(9, t.0, a.0 as u64),
-        Event::End(t, a) => at(10, t.0, a.0 as u64),
-        Event::Close(t, a) => at(11, t.0, a.0 as u64),
-        Event::Complete(k, a) => at(12, k.0, a.0 as u64),
-        Event::Sync(l) => at(13, l as u64, 0),
-        Event::Note(k, a) => at(14, k.0, a.0 as u64),
-        Event::Commit(k) => at(15, k.0, 0),
-        Event::Settle(k) => at(16, k.0, 0),
-        Event::AbortBatch(k) => at(17, k.0, 0),
-        Event::Rollback(a) => at(18, a.0 as u64, 0),
-        Event::DropSub(k, a) => at(19, k.0, a.0 as u64),
-        Event::DropControl(t) => at(20, t.0, 0),
-        Event::Prepare(t, a) => at(21, t.0, a.0 as u64),
-        Event::Vouch(t, a) => at(22, t.0, a.0 as u64),
-        Event::Decide(t) => at(23, t.0, 0),
-        Event::Seal(t) => at(24, t.0, 0),
-        Event::Finish(t, a) => at(25, t.0, a.0 as u64),
-        Event::Reply(n) => at(26, n.0 as u64, 0),
-        Event::Trim(k, a) => at(27, k.0, a.0 as u64),
+        Event::Submit(n) => at(n.0 as u64, 0),
+        Event::Pass(c) => at(c as u64, 0),
+        Event::Form(k) => at(k.0, 0),
+        Event::Admit(t) => at(t.0, 0),
+        Event::Arrive(k, a) => at(k.0, a.0 as u64),
+        Event::Ask(t, a) => at(t.0, a.0 as u64),
+        Event::Take(t, a) => at(t.0, a.0 as u64),
+        Event::Run(t, a) => at(t.0, a.0 as u64),
+        Event::Send(t, a) => at(t.0, a.0 as u64),
+        Event::End(t, a) => at(t.0, a.0 as u64),
+        Event::Close(t, a) => at(t.0, a.0 as u64),
+        Event::Complete(k, a) => at(k.0, a.0 as u64),
+        Event::Sync(l) => at(l as u64, 0),
+        Event::Note(k, a) => at(k.0, a.0 as u64),
+        Event::Commit(k) => at(k.0, 0),
+        Event::Settle(k) => at(k.0, 0),
+        Event::AbortBatch(k) => at(k.0, 0),
+        Event::Rollback(a) => at(a.0 as u64, 0),
+        Event::DropSub(k, a) => at(k.0, a.0 as u64),
+        Event::DropControl(t) => at(t.0, 0),
+        Event::Prepare(t, a) => at(t.0, a.0 as u64),
+        Event::Vouch(t, a) => at(t.0, a.0 as u64),
+        Event::Decide(t) => at(t.0, 0),
+        Event::Seal(t) => at(t.0, 0),
+        Event::Finish(t, a) => at(t.0, a.0 as u64),
+        Event::Reply(n) => at(n.0 as u64, 0),
+        Event::Trim(k, a) => at(k.0, a.0 as u64),
     }
 }
 
 /// Its kind: by that events are ordered first.
 pub(crate) fn kind_of(e: Event) -> u8
-    ensures { result ≡ kind_of (event_meant e) }
+    ensures value { result ≡ kind_of (event_meant e) }
+    ensures below { result < 28 }
 {
     match e {
         Event::Submit(_) => 1,
@@ -105,27 +104,4 @@ pub(crate) fn kind_of(e: Event) -> u8
         Event::Reply(_) => 26,
         Event::Trim(_, _) => 27,
     }
-}
-
-/// Whether the event stands before the place. Where their kinds differ its numbers are not read.
-pub(crate) fn stands_before(e: Event, place: &Place) -> bool
-    ensures { result ≡ is_rank_below (rank (event_meant e)) (rank_of place.now) }
-{
-    let kind = kind_of(e);
-    if kind != place.kind {
-        return kind < place.kind;
-    }
-    place_of(e).is_below(place)
-}
-
-/// Whether the first one stands before the other.
-pub(crate) fn is_before(e: Event, other: Event) -> bool
-    ensures { result ≡ is_before (event_meant e) (event_meant other) }
-{
-    let kind = kind_of(e);
-    let its = kind_of(other);
-    if kind != its {
-        return kind < its;
-    }
-    place_of(e).is_below(&place_of(other))
 }

@@ -1,9 +1,12 @@
 //! Which events an event may refuse.
 
-ghost use Rattle.std.specs.Prelude.{◌≡◌, ◌||◌, is_some};
+ghost use Rattle.std.specs.Prelude.{◌≡◌, false};
 ghost use Rattle.core_events.specs.Meant.{event_meant};
+ghost use Rattle.protocol.specs.Events as machine;
 ghost use Rattle.protocol_ready.specs.Refusing.{actor_of_event, tid_of_event, bid_of_event, is_at, is_on_ring, is_form, spreads, may_free, is_on_log, is_on_batches, is_settle, is_reply, may_refuse};
 ghost use Rattle.protocol_ready.specs.Touched.{is_abort};
+ghost use Rattle.ready_list.specs.Order.{kind_of};
+ghost use Rattle.ready_list.specs.Reaches.{is_by_actor, is_by_bid, is_by_form, is_by_spread, is_by_tid, may_refuse_by_kind, may_refuse_by_place, may_refuse_kind};
 
 use core_events::Event;
 
@@ -84,13 +87,6 @@ impl Reach {
         }
     }
 
-    /// Whether it may refuse also events that stand behind the replies: those of batches that are over.
-    pub fn is_wide(&self) -> bool
-        ensures { result ≡ is_abort (event_meant self.now.event) || is_some (bid_of_event (event_meant self.now.event)) }
-    {
-        self.abort || self.bid.is_some()
-    }
-
     /// Whether it may refuse this one.
     pub fn may_refuse(&self, f: Event) -> bool
         ensures { result ≡ may_refuse (event_meant self.now.event) (event_meant f) }
@@ -128,6 +124,69 @@ impl Reach {
                 Event::Trim(k, _) => self.has_bid(k.0),
             }
     }
+
+    /// Whether it may refuse an event of this kind. Where it may not, no event of the kind needs to be asked for again.
+    pub fn may_refuse_kind(&self, kind: u8) -> bool
+        ensures { result ≡ false → (f : machine.Event) → kind_of f ≡ kind → may_refuse (event_meant self.now.event) f ≡ false }
+    {
+        self.reaches(kind)
+    }
+
+    fn reaches(&self, kind: u8) -> bool
+        ensures { result ≡ may_refuse_kind (event_meant self.now.event) kind }
+    {
+        self.reaches_by_kind(kind) || self.reaches_by_place(kind)
+    }
+
+    fn reaches_by_kind(&self, kind: u8) -> bool
+        ensures { result ≡ may_refuse_by_kind (event_meant self.now.event) kind }
+    {
+        (kind != 26 && self.abort)
+            || ((kind <= 4 && self.ring)
+                || ((kind <= 4 && self.free)
+                    || ((is_by_form(kind) && self.form)
+                        || ((is_by_spread(kind) && self.spread)
+                            || ((kind == 13 && self.log)
+                                || (((kind == 15 || kind == 17) && self.batches)
+                                    || (kind == 23 && self.settle)))))))
+    }
+
+    fn reaches_by_place(&self, kind: u8) -> bool
+        ensures { result ≡ may_refuse_by_place (event_meant self.now.event) kind }
+    {
+        (is_by_actor(kind) && self.actor.is_some())
+            || ((is_by_tid(kind) && self.tid.is_some()) || (is_by_bid(kind) && self.bid.is_some()))
+    }
+}
+
+fn is_by_actor(kind: u8) -> bool
+    ensures { result ≡ is_by_actor kind }
+{
+    (5 <= kind && kind <= 12) || (kind == 18 || kind == 19)
+}
+
+fn is_by_tid(kind: u8) -> bool
+    ensures { result ≡ is_by_tid kind }
+{
+    (kind == 6 || kind == 7) || (kind == 11 || (20 <= kind && kind <= 25))
+}
+
+fn is_by_bid(kind: u8) -> bool
+    ensures { result ≡ is_by_bid kind }
+{
+    (kind == 5 || (14 <= kind && kind <= 17)) || (kind == 19 || kind == 27)
+}
+
+fn is_by_form(kind: u8) -> bool
+    ensures { result ≡ is_by_form kind }
+{
+    (kind == 6 || kind == 7) || (kind == 11 || kind == 20)
+}
+
+fn is_by_spread(kind: u8) -> bool
+    ensures { result ≡ is_by_spread kind }
+{
+    kind == 6 || (21 <= kind && kind <= 25)
 }
 
 fn actor_in(e: Event) -> Option<u16>

@@ -1,48 +1,54 @@
 //! The list of events that are allowed, in order.
-ghost use Rattle.std.specs.Prelude.{◌≡◌, ◌+◌, ◌<◌, ◌≤◌, [], ◌++◌, length, map, slice_get, slice_index_or, OnErr, OnOk};
-ghost use Rattle.std.specs.List.{insert, remove};
+ghost use Rattle.std.specs.Prelude.{◌≡◌, ◌+◌, ◌<◌, ◌≤◌, ◌==◌, ℕ, [], ◌++◌, filter, length, map, slice_get, Contains, OnErr, OnOk};
 ghost use Rattle.std.specs.Option.{option_map};
-ghost use Rattle.std.specs.VecDeque.{deque_len, deque_capacity};
 ghost use Rattle.core_events.specs.Meant.{event_meant};
-ghost use Rattle.protocol_ready.specs.Ready.{put, put_or_take, without};
-ghost use Rattle.ready_list.specs.Order.{IsGap, is_there};
+ghost use Rattle.protocol.specs.Events as machine;
+ghost use Rattle.protocol_ready.specs.Ready.{put, without};
+ghost use Rattle.ready_list.specs.Order.{kind_of, spare_of};
 
-use crate::places::{is_before, place_of, stands_before};
+use crate::places::kind_of;
+use crate::ring::Ring;
+use crate::rings::{next_from, nth_from, put_in, room_for, take_out};
 use core_events::Event;
-use protocol_ready::{events_stay_in_order, ranks_are_in_order};
 use snap_base::Memory;
 use std::alloc::Global;
-use std::collections::VecDeque;
 use std::marker::Model;
 
-/// Events in order, each once. Contracts see them as the machine's, and for how many more there is room. They stand in a ring,
-/// so that what changes near one end moves only what stands there: the replies that wait, which may be many, come last.
+/// Events in order, each once. Contracts see them as the machine's, and for how many more of each kind there is room. They stand
+/// in a ring for each kind, since what comes in or goes out of one kind moves nothing of the others, and mostly it goes behind
+/// the last of its kind or is the first.
 #[derive(Drop)]
 pub struct ReadyList {
-    events: VecDeque<Event>,
+    alloc: Global,
+    /// By kind, as far as there was room for an event of the kind.
+    kinds: Vec<Ring>,
+    /// How many events there are.
+    count: usize,
+    /// There are no events in the rings ahead of this one.
+    first: usize,
 }
 
 impl Model for ReadyList {
-    ghost use Rattle.std.specs.Prelude.{◌-◌, map};
-    ghost use Rattle.std.specs.VecDeque.{deque_len, deque_capacity};
-    ghost use Rattle.core_events.specs.Meant.{event_meant};
-    ghost use Rattle.protocol.specs.Schedule.{AscendByRank};
     ghost use Rattle.ready_list.specs.Order.{RoomedList};
+    ghost use Rattle.ready_list.specs.Rings.{AreByKind, all_events, spares};
 
     ghost Value = { RoomedList };
 
-    ghost view = { λ l. record { events = map event_meant l.events.items; spare = deque_capacity l.events - deque_len l.events } };
+    ghost view = { λ l. record { events = all_events l.kinds.items; spare = spares l.kinds.items l.count } };
 
-    ghost invariant = { λ l. AscendByRank (map event_meant l.events.items) };
+    ghost invariant = { λ l. AreByKind l.kinds.items l.count l.first };
 }
 
 impl ReadyList {
-    /// No events, and no room.
+    /// No events.
     pub fn new(alloc: Global) -> ReadyList
         ensures { result.events ≡ [] }
     {
         ReadyList {
-            events: VecDeque::new(alloc),
+            alloc,
+            kinds: Vec::new(alloc),
+            count: 0,
+            first: 28,
         }
     }
 
@@ -50,142 +56,60 @@ impl ReadyList {
     pub fn count(&self) -> usize
         ensures { result ≡ length self.now.events }
     {
-        self.events.len()
+        self.count
     }
 
     /// The n-th of them, from 0 on. `None` exactly where there are not so many.
     pub fn nth(&self, n: usize) -> Option<Event>
         ensures { option_map event_meant result ≡ slice_get self.now.events n }
     {
-        self.events.get(n).copied()
+        nth_from(self.kinds.as_slice(), self.first, n)
     }
 
-    /// All of them, in order, in two pieces, since they stand in a ring.
-    pub fn pieces(&self) -> (&[Event], &[Event])
-        ensures { map event_meant (result.0.now ++ result.1.now) ≡ self.now.events }
+    /// Those of this kind, in order, in two pieces, since they stand in a ring.
+    pub fn of_kind(&self, kind: u8) -> (&[Event], &[Event])
+        ensures { map event_meant (result.0.now ++ result.1.now) ≡ filter (λ f. kind_of f == kind) self.now.events }
     {
-        self.events.as_slices()
+        match self.kinds.get(kind as usize) {
+            Some(ring) => ring.pieces(),
+            None => (&[], &[]),
+        }
     }
 
-    /// Makes room for so many more, and changes nothing else. `Memory` only where there was less room; then there is as much
-    /// as before.
-    pub fn room(&mut self, more: usize) -> Result<(), Memory>
-        ensures ok { OnOk result (more ≤ self.new.spare) }
-        ensures needed { OnErr result (self.old.spare < more) }
+    /// Makes room for as many more of the kind of each of these events as there are of them, and changes nothing else. `Memory`
+    /// only where there was less room for one of these kinds; then there is as much as before, or more.
+    pub fn room(&mut self, news: &[Event]) -> Result<(), Memory>
+        ensures ok { OnOk result ((f : machine.Event) → Contains (map event_meant news.now) f → length news.now ≤ spare_of self.new (kind_of f)) }
+        ensures needed { OnErr result ((f : machine.Event) × Contains (map event_meant news.now) f × (spare_of self.old (kind_of f) < length news.now)) }
         ensures unchanged { self.new.events ≡ self.old.events }
-        ensures no_less { self.old.spare ≤ self.new.spare }
+        ensures no_less { (k : ℕ) → spare_of self.old k ≤ spare_of self.new k }
     {
-        self.events.reserve(more)?;
-        Ok(())
-    }
-
-    /// Where the event is, or would go.
-    pub fn gap(&self, e: Event) -> usize
-        ensures { IsGap self.now.events (event_meant e) result }
-    {
-        ranks_are_in_order();
-        let place = place_of(e);
-        let (head, tail) = self.events.as_slices();
-        let mut low = 0;
-        let mut high = self.events.len();
-        // Mostly the event that is taken out is the first, and a search for it would ask of half a dozen others.
-        if low < high && !stands_before(event_at(head, tail, low), &place) {
-            return low;
+        if usize::MAX - self.count < news.len() {
+            return Err(Memory);
         }
-        while low < high {
-            let middle = low + (high - low) / 2;
-            if stands_before(event_at(head, tail, middle), &place) {
-                low = middle + 1;
-            } else {
-                high = middle;
-            }
-        }
-        low
-    }
-
-    // Whether the event is at its gap.
-    fn is_at(&self, at: usize, e: Event) -> bool
-        requires { IsGap self.now.events (event_meant e) at }
-        ensures { result ≡ is_there self.now.events (event_meant e) at }
-    {
-        at < self.events.len() && !is_before(e, self.events[at])
+        room_for(self.alloc, &mut self.kinds, news)
     }
 
     /// Puts an event in, where it is not in.
     pub fn put(&mut self, e: Event)
-        requires { 1 ≤ self.old.spare }
+        requires { 1 ≤ spare_of self.old (kind_of (event_meant e)) }
         ensures events { self.new.events ≡ put (event_meant e) self.old.events }
-        ensures room { self.old.spare ≤ self.new.spare + 1 }
+        ensures room { (k : ℕ) → spare_of self.old k ≤ spare_of self.new k + 1 }
     {
-        events_stay_in_order();
-        ranks_are_in_order();
-        let at = self.gap(e);
-        if !self.is_at(at, e) {
-            put_at(&mut self.events, at, e);
-        }
+        let kind = kind_of(e) as usize;
+        self.count += put_in(&mut self.kinds, kind, e);
+        self.first = self.first.min(kind);
     }
 
     /// Takes an event out, where it is in.
     pub fn take(&mut self, e: Event)
         ensures events { self.new.events ≡ without (event_meant e) self.old.events }
-        ensures no_less { self.old.spare ≤ self.new.spare }
+        ensures no_less { (k : ℕ) → spare_of self.old k ≤ spare_of self.new k }
     {
-        events_stay_in_order();
-        ranks_are_in_order();
-        let at = self.gap(e);
-        if self.is_at(at, e) {
-            take_at(&mut self.events, at);
+        let kind = kind_of(e) as usize;
+        if kind < self.kinds.len() {
+            self.count -= take_out(&mut self.kinds, kind, e);
+            self.first = next_from(self.kinds.as_slice(), self.first);
         }
-    }
-
-    /// The event was looked at: it is put in where it is allowed, and else taken out.
-    pub fn look(&mut self, e: Event, allowed: bool)
-        requires { 1 ≤ self.old.spare }
-        ensures events { self.new.events ≡ put_or_take allowed (event_meant e) self.old.events }
-        ensures room { self.old.spare ≤ self.new.spare + 1 }
-    {
-        if allowed {
-            self.put(e);
-        } else {
-            self.take(e);
-        }
-    }
-}
-
-/// The event at this place in two pieces, of which the second follows the first.
-pub fn event_at(head: &[Event], tail: &[Event], i: usize) -> Event
-    requires { i < length (head.now ++ tail.now) }
-    ensures { result ≡ slice_index_or (head.now ++ tail.now) i result }
-{
-    if i < head.len() {
-        head[i]
-    } else {
-        tail[i - head.len()]
-    }
-}
-
-// There is room, so it can't fail. Of what stands before the place and what stands behind it the shorter moves.
-fn put_at(events: &mut VecDeque<Event>, at: usize, e: Event)
-    requires within { at ≤ length events.old.items }
-    requires room { deque_len events.old < deque_capacity events.old }
-    ensures items { events.new.items ≡ insert events.old.items at e }
-    ensures len { deque_len events.new ≡ deque_len events.old + 1 }
-    ensures capacity { deque_capacity events.old ≤ deque_capacity events.new }
-{
-    match events.insert(at, e) {
-        Ok(()) => {}
-        Err(_) => {}
-    }
-}
-
-fn take_at(events: &mut VecDeque<Event>, at: usize)
-    requires { at < length events.old.items }
-    ensures items { events.new.items ≡ remove events.old.items at }
-    ensures len { deque_len events.new + 1 ≡ deque_len events.old }
-    ensures capacity { deque_capacity events.new ≡ deque_capacity events.old }
-{
-    match events.remove(at) {
-        Some(_) => {}
-        None => {}
     }
 }

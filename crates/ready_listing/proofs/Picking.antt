@@ -1,5 +1,5 @@
 -- What is put into a list, and that these are the offers.
-use Rattle.std.proofs.Common.{◌≡◌, ℕ, ◌+◌, ◌<◌, get_or, Bool, true, Contains, ◌↔◌, ◌⊎◌, Some, List, [], ◌∷◌, length, map, take, refl, sym, ap, subst, inl, inr, ◌∙◌, arith}
+use Rattle.std.proofs.Common.{◌≡◌, ℕ, zero, suc, ◌+◌, ◌<◌, ◌≤◌, get_or, Bool, true, Contains, ◌↔◌, ◌⊎◌, Some, List, [], ◌∷◌, length, map, take, refl, sym, ap, subst, inl, inr, ◌∙◌, arith}
 use Rattle.std.proofs.lemmas.List.{map_more}
 use Rattle.std.proofs.lemmas.List.Elements.{Contains-append_cases}
 use Rattle.aml_slice.specs.Controls.{Rest}
@@ -18,6 +18,7 @@ use Rattle.protocol_theorems.specs.Sizes.{SizesHold}
 use Rattle.protocol_ready.specs.Ready.{put}
 use Rattle.protocol_ready.specs.Telling.{PartsTell, PostTells, CellTells, DeskTells, BookTells, AnswersTell}
 use Rattle.snap_hand.specs.Hands.{Parts, Fits, IsHandOf}
+use Rattle.ready_list.specs.Order.{RoomedList, kind_of, spare_of}
 use Rattle.ready_listing.specs.Chosen.{IsDue, IsOffered, IsLooked, AreChosen, is_asked}
 use Rattle.ready_listing.specs.Listed.{on_hand}
 use Rattle.ready_listing.specs.Offers.{AreOffers}
@@ -35,6 +36,28 @@ looked_put w h e old new same one order offered = subst (λ v. IsLooked w h e ol
   due = λ d. (one e old e).1 (inl refl);
   ascends = order e old;
 })
+
+-- ---- room
+
+-- so far each kind of the events has room for as many as are left
+abbrev pub HasRoom : RoomedList → List code.Event → ℕ → Type 0
+HasRoom l xs i = (f : Event) → Contains (map event_meant xs) f → length xs ≤ i + spare_of l (kind_of f)
+
+meant_at : (xs : List code.Event) (i : ℕ) (x : code.Event) → i < length xs → x ≡ get_or xs i x → Contains (map event_meant xs) (event_meant x)
+meant_at [] i x within is = absurd (omega (arith, within))
+meant_at (y ∷ xs) zero x within is = (0, omega arith, ap event_meant (sym is))
+meant_at (y ∷ xs) (suc i) x within is = let c = meant_at xs i x (omega (arith, within)) is in (suc c.0, omega (arith, c.1), c.2)
+
+pub room_for_next : (l : RoomedList) (xs : List code.Event) (i : ℕ) (x : code.Event) → i < length xs → x ≡ get_or xs i x → HasRoom l xs i → 1 ≤ spare_of l (kind_of (event_meant x))
+room_for_next l xs i x within is room = omega (arith, within, room (event_meant x) (meant_at xs i x within is))
+
+pub room_for_rest : (old new : RoomedList) (xs : List code.Event) (i : ℕ) → ((k : ℕ) → spare_of old k ≤ spare_of new k + 1) → HasRoom old xs i → HasRoom new xs (i + 1)
+room_for_rest old new xs i less room f c = omega (arith, less (kind_of f), room f c)
+
+pub room_for_all : (l : RoomedList) (xs : List code.Event) → ((f : Event) → Contains (map event_meant xs) f → length xs ≤ spare_of l (kind_of f)) → HasRoom l xs 0
+room_for_all l xs room f c = omega (arith, room f c)
+
+-- ---- what is chosen
 
 one_only : (y f : Event) → Contains (y ∷ []) f → y ≡ f
 one_only y f c = elim (of_cons [] y f c) [ inl e ↦ e | inr i ↦ absurd (omega (arith, i.1)) ]

@@ -1,6 +1,7 @@
 //! Which of some events may be taken.
-ghost use Rattle.std.specs.Prelude.{◌≡◌, ◌+◌, ◌≤◌, true, map, IfOk};
+ghost use Rattle.std.specs.Prelude.{◌≡◌, ℕ, ◌+◌, ◌≤◌, true, map, IfOk};
 ghost use Rattle.core_events.specs.Meant.{event_meant};
+ghost use Rattle.ready_list.specs.Order.{kind_of, spare_of};
 ghost use Rattle.ready_listing.specs.Chosen.{AreChosen, IsDue, IsLooked, IsOffered, is_asked};
 ghost use Rattle.snap_hand.specs.Hands.{IsHandOf};
 ghost use Rattle.snap_hand.specs.Steps.{OnSomeRun};
@@ -49,9 +50,9 @@ fn look(tables: &Tables, hand: &Hand, e: Event, list: &mut ReadyList)
     requires tables { AreTables tables.now }
     requires places { IsHandOf (fixed_of tables.now) hand.now }
     requires some { OnSomeRun (fixed_of tables.now) hand.now }
-    requires room { 1 ≤ list.old.spare }
+    requires room { 1 ≤ spare_of list.old (kind_of (event_meant e)) }
     ensures looked { IsLooked (fixed_of tables.now) hand.now (event_meant e) list.old.events list.new.events }
-    ensures room { list.old.spare ≤ list.new.spare + 1 }
+    ensures room { (k : ℕ) → spare_of list.old k ≤ spare_of list.new k + 1 }
 {
     events_stay_in_order();
     one_is_put();
@@ -73,7 +74,7 @@ pub(crate) fn chosen(
     ensures { IfOk result (λ l. AreChosen (fixed_of tables.now) hand.now (map event_meant events.now) l.events) }
 {
     let mut list = ReadyList::new(alloc);
-    list.room(events.len())?;
+    list.room(events)?;
     for e in events {
         look(tables, hand, *e, &mut list);
     }
