@@ -7,7 +7,7 @@ use Rattle.aml_slice.specs.Controls.{Rest}
 use Rattle.snap_hand.specs.core_rows.OnRuns.{HasRun}
 use Rattle.snap_base.specs.declared.transactions.State.{State}
 use Rattle.snap_base.specs.declared.transactions.Tx.{Tx}
-use Rattle.protocol.specs.Effects.{cell_at}
+use Rattle.protocol.specs.Effects.{cell_at, log_at}
 use Rattle.protocol.specs.Events.{Event}
 use Rattle.protocol.specs.Facts.{Alone}
 use Rattle.protocol.specs.Fixed.{Fixed, Go, IsText, base}
@@ -16,10 +16,11 @@ use Rattle.protocol.specs.Numbers.{from, flat, times, NumbersDrawnOnce}
 use Rattle.protocol.specs.Parts.{Joined, Act, Cascade, ControlMessage, Entry, BatchEntry, ActEntry, OfBatch, OfAct, Machine}
 use Rattle.protocol.specs.Rests.{HasFacts, IsRest, IsTxIn}
 use Rattle.protocol.specs.Runs.{IsRun, reached}
-use Rattle.protocol.specs.Words.{is_empty, is_among, holds, act_of, joined_of, acts_on, control_of, has_act, has_control_to, is_live_status, is_settled}
+use Rattle.protocol.specs.Words.{is_empty, is_among, holds, act_of, joined_of, acts_on, control_of, has_act, has_control_to, is_live_status, is_settled, is_aborted}
 use Rattle.protocol_theorems.specs.Sets.{NumbersStand, is_ahead, StandsBehind, least_in}
 use Rattle.protocol_laws.proofs.first.Drawn.{numbers_drawn_once}
 use Rattle.protocol_laws.proofs.first.Lists.{all_found, both_all}
+use Rattle.protocol_laws.proofs.first.SettlingKept.{batches_settle_in_order}
 use Rattle.protocol_laws.proofs.first.Times
 use Rattle.protocol_laws.proofs.machine.ActResults.{NoActResult}
 use Rattle.protocol_laws.proofs.machine.ActsFound.{found_tid}
@@ -33,9 +34,11 @@ use Rattle.protocol_theorems.proofs.quiet.NoControls.{InBook, Own, all_known}
 use Rattle.protocol_theorems.proofs.quiet.QuietKnown.{numbered, settled_results}
 use Rattle.protocol_theorems.proofs.sets.NumbersStand.{numbers_stand}
 use Rattle.protocol_ready.proofs.Listing.{held}
+use Rattle.protocol_records.specs.RecordLaws.{TellsOf}
 use Rattle.protocol_records.specs.Logged.{is_on, has_joined, OnJoined}
 use Rattle.protocol_records.proofs.crash.ActsOver.{acts_end_whole}
 use Rattle.protocol_records.proofs.crash.CrashParts.{logs_hold}
+use Rattle.protocol_records.proofs.recording.RecordsHold.{all_told}
 use Rattle.ready_news.proofs.GivenUp.{Known}
 use Rattle.ready_news.proofs.OffActors.{off_actors}
 
@@ -120,6 +123,9 @@ pub record Holding (w : Fixed Rest) (s : Machine Rest) : Type 0 where
   pub low : (t : ℕ) (x : Act) → act_of t s.book.acts ≡ Some x → is_empty x.places ≡ true → x.m ≡ base w.text
   pub own : AllByRecursion IsOwn s.post.controls
   pub none : (t a : ℕ) → has_control_to t a s.post.controls ≡ true → holds (λ x. is_some x.result) (act_of t s.book.acts) ≡ true → ⊥
+  -- a batch is marked aborted where a cascade covers it, and records are of batches that are there
+  pub marked : AllByRecursion (λ b. b.aborted ≡ is_aborted b.bid s.book.cascades) s.desk.batches
+  pub told : (l : ℕ) → AllByRecursion (TellsOf s.desk.batches s.book.acts) (log_at s l).records
 
 all_more : {X : Type 0} {P Q : X → Type 0} → ((x : X) → P x → Q x) → (xs : List X) → AllByRecursion P xs → AllByRecursion Q xs
 all_more f [] h = tt
@@ -203,6 +209,8 @@ holding_at w finish es f v run = record {
   low = off_actors w es run;
   own = own_at w finish es f v run;
   none = unended (reached w es) (none_at w finish es f v run);
+  marked = (batches_settle_in_order w es v run).marked;
+  told = all_told {C = Rest} w finish es f v run;
 }
 
 pub holding : (w : Fixed Rest) (s : Machine Rest) → HasRun w s → Holding w s

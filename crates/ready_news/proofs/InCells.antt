@@ -3,25 +3,27 @@ use Rattle.std.specs.Prelude.{◌≡◌, ◌↔◌, nat_le, nat_lt, map, refl, �
 use Rattle.std.specs.List.{list_any, AllByRecursion}
 use Rattle.std.proofs.Common.{arith, sym, ap, subst, inl, inr, ◌∙◌}
 use Rattle.std.proofs.lemmas.Bool.{true≢false, ltb-false, and_parts, eqb-true, cases_Bool}
+use Rattle.std.proofs.lemmas.List.Elements.{Contains-append_left, Contains-append_right}
 use Rattle.std.proofs.lemmas.Option.{same_Some, slice_get_within, slice_get_past}
 use Rattle.aml_slice.specs.Controls.{Rest}
-use Rattle.protocol.specs.Conditions.{IsAllowed, conditions, epoch, refusal}
+use Rattle.protocol.specs.Conditions.{IsAllowed, conditions, epoch, has_ended_on, has_gone_on, refusal}
 use Rattle.protocol.specs.Effects.{after, cell_at, no_cell, puts}
 use Rattle.protocol.specs.Events.{Event, Form, Arrive, Ask, Take, Run, Send, End, Close, Complete, Abort, Rollback, Finish, Trim}
 use Rattle.protocol.specs.Fixed.{Fixed}
 use Rattle.protocol.specs.Laws.{AfterEveryRun}
 use Rattle.snap_hand.specs.core_rows.OnRuns.{HasRun}
-use Rattle.protocol.specs.OnCell.{outcome_taken}
+use Rattle.protocol.specs.OnCell.{batch_entries, batch_placed, done_in, is_done_after, outcome_taken, pact_closed, slice_of, slice_run}
 use Rattle.protocol.specs.OnDesk.{new_batch}
 use Rattle.protocol.specs.OnRing.{next_actors, next_pacts, numbered}
-use Rattle.protocol.specs.Parts.{Who, OfBatch, OfAct, Pact, Batch, Desk, Outcome, Cell, Machine}
+use Rattle.protocol.specs.Parts.{Who, OfBatch, OfAct, SubBatch, Pact, Batch, Desk, Outcome, Cell, Machine}
 use Rattle.protocol.specs.Numbers.{NumbersDrawnOnce, flat, times}
 use Rattle.protocol.specs.Rests.{IsRest, IsTxIn}
-use Rattle.protocol.specs.Words.{batch_of, below, has_undone, holds, is_ended, is_going, names_pact, outcome_of, pact_result, result_among, who_on}
+use Rattle.protocol.specs.Words.{batch_of, below, has_undone, holds, is_ended, is_going, is_undone, names_pact, outcome_of, pact_result, result_among, sub_of, who_on}
 use Rattle.protocol_laws.specs.FromDesk.{EntryOf, FromDesk}
 use Rattle.protocol_laws.proofs.first.Times.{times_append}
 use Rattle.protocol_laws.proofs.machine.AllGood.{all_good}
 use Rattle.listing_facts.specs.batch_table.Listed.{actors_in}
+use Rattle.listing_facts.specs.hybrid_schedule.Listed.{undone_by}
 use Rattle.protocol_laws.specs.Ranges.{BatchInRange, IsDrawnTid, NumbersInRange}
 use Rattle.protocol_laws.proofs.first.Controls.{at_most_one}
 use Rattle.protocol_theorems.specs.Sizes.{SizesHold}
@@ -30,17 +32,18 @@ use Rattle.protocol_ready.specs.Touched.{is_touched, is_abort, changes_entries, 
 use Rattle.protocol_ready.proofs.Listing.{from_has, any_of, at_found}
 use Rattle.protocol_ready.proofs.TouchedListed.{no}
 use Rattle.listing_facts.specs.Listing.{CellLists}
-use Rattle.ready_listing.specs.Listed.{on_cell, on_place, of_place}
+use Rattle.ready_listing.specs.Listed.{on_place, of_place}
 use Rattle.ready_listing.proofs.Lists.{first_of_all, in_flat_map, in_below}
 use Rattle.ready_listing.proofs.Told.{cell_lists}
 use Rattle.snap_hand.specs.Hands.{Parts, Fits, IsHandOf, IsWhole}
 use Rattle.ready_news.specs.New.{IsBehind, is_new}
 use Rattle.ready_news.specs.InBook.{only}
-use Rattle.ready_news.specs.InCells.{of_close, close_at, closes, closes_of, closes_behind, owes, who_in, cells_listed}
+use Rattle.ready_news.specs.InCells.{of_close, close_at, closes, closes_of, closes_behind, late_by, left_by, of_late, of_shown, on_changed, owes, put_there, wakes, who_in, cells_listed}
 use Rattle.ready_news.proofs.Common.{Among, cell_is_there, desk_there}
 use Rattle.ready_news.proofs.Closing.{declared_where, who_is}
 use Rattle.ready_news.proofs.InPost.{find_gone, numbered_from, left_or}
 use Rattle.ready_news.proofs.PostTold.{Asks, asks_of, first_only}
+use Rattle.ready_news.proofs.Waking.{arrive_closes, ask_closes, ask_completes, ask_runs, complete_listed, done_owes_nothing, finish_closes, finish_ends, finish_sends, named_by, run_listed, trim_closes}
 
 -- ---- elsewhere nothing is touched
 
@@ -208,18 +211,6 @@ module _ (asked : Event → Bool) (w : Fixed Rest) (s : Machine Rest) (h : Parts
       closed (End u b) g plain t x v = no plain
       closed _ g plain t x v = no v
 
-  -- where it is
-  here_listed : (e : Event) (a : ℕ) → here e a ≡ true → Among (cells_listed e h) es → Among (on_place h a) es
-  here_listed (Arrive k b) a q more f c = more f (subst (λ n. Contains (on_place h n) f) (sym (eqb-true b a q)) c)
-  here_listed (Ask u b) a q more f c = more f (subst (λ n. Contains (on_place h n) f) (sym (eqb-true b a q)) c)
-  here_listed (Run u b) a q more f c = more f (subst (λ n. Contains (on_place h n) f) (sym (eqb-true b a q)) c)
-  here_listed (Close u b) a q more f c = more f (subst (λ n. Contains (on_place h n) f) (sym (eqb-true b a q)) c)
-  here_listed (Complete k b) a q more f c = more f (subst (λ n. Contains (on_place h n) f) (sym (eqb-true b a q)) c)
-  here_listed (Rollback b) a q more f c = more f (subst (λ n. Contains (on_place h n) f) (sym (eqb-true b a q)) c)
-  here_listed (Finish u b) a q more f c = more f (subst (λ n. Contains (on_place h n) f) (sym (eqb-true b a q)) c)
-  here_listed (Trim k b) a q more f c = more f (subst (λ n. Contains (on_place h n) f) (sym (eqb-true b a q)) c)
-  here_listed _ a q more f c = no q
-
   -- after a cascade all
   abort_listed : (e : Event) (a : ℕ) → a < length h.cells → is_abort e ≡ true → Among (cells_listed e h) es → Among (on_place h a) es
   abort_listed (Abort k) a within z more f c = more f (in_flat_map (on_place h) (below (length h.cells)) a f (in_below a (length h.cells) within) c)
@@ -269,17 +260,174 @@ module _ (asked : Event → Bool) (w : Fixed Rest) (s : Machine Rest) (h : Parts
     rollback = λ x y. no (g.touched (Rollback a) x);
   }
 
-  module _ (ranges : AllByRecursion (BatchInRange w s) s.desk.batches) (enough : (cascades a : ℕ) (c : Cell Rest) → CellLists asked cascades a c es → CellTells asked cascades a c es) where
-    plain_told : (e : Event) → is_plain e ≡ true → Asks asked w s e → Desked (after w e s) h → (cascades a : ℕ) (c : Cell Rest) → a < length h.cells → slice_get (after w e s).cells a ≡ Some c → on_place h a ≡ on_cell a c → Among (cells_listed e h) es → CellTells asked cascades a c es
-    plain_told e plain g desked cascades a c within at shown more = elim (cases_Bool (is_abort e)) [
-      | inl z ↦ all (abort_listed e a within z more)
-      | inr z ↦ elim (cases_Bool (here e a)) [ inl q ↦ all (here_listed e a q more) | inr q ↦ told_away e g ranges desked cascades a c within at plain z q more ]
-    ]
-      where
-        all : Among (on_place h a) es → CellTells asked cascades a c es
-        all among = enough cascades a c (cell_lists asked es cascades a c (λ f x. among f (subst (λ v. Contains v f) (sym shown) x)))
+  -- ---- where it is
 
-    cell_told : (e : Event) → Asks asked w s e → Desked (after w e s) h → (cascades a : ℕ) (c : Cell Rest) → a < length h.cells → slice_get (after w e s).cells a ≡ Some c → on_place h a ≡ on_cell a c → Among (cells_listed e h) es → CellTells asked cascades a c es
+  -- of what the actor's cell shows
+  shown_among : (e : Event) (o : Option Desk) (a b : ℕ) (c : Cell Rest) → b ≡ a → slice_get h.cells a ≡ Some (Some c) → Among (of_shown (on_changed e o b) (slice_get h.cells b)) es → Among (on_changed e o a c) es
+  shown_among e o a b c same shown more f x =
+      more f (subst (λ n. Contains (of_shown (on_changed e o n) (slice_get h.cells n)) f) (sym same) (subst (λ v. Contains (of_shown (on_changed e o a) v) f) (sym shown) x))
+
+  module _ (e : Event) (g : Asks asked w s e) (o : Option Desk) (a : ℕ) (c : Cell Rest) (at : slice_get (after w e s).cells a ≡ Some c) (more : Among (on_changed e o a c) es) where
+    put_in_list : Among (put_there e o a c) es
+    put_in_list f x = more f (Contains-append_left (put_there e o a c) (wakes a c) f x)
+
+    runs_woken : (t : ℕ) → asked (Run t a) ≡ true → Contains es (Run t a)
+    runs_woken t x = more (Run t a) (Contains-append_right (put_there e o a c) (wakes a c) (Run t a) (run_listed w (after w e s) t a c at (g.allowed (Run t a) x)))
+
+    completes_woken : (k : ℕ) → asked (Complete k a) ≡ true → Contains es (Complete k a)
+    completes_woken k x = more (Complete k a) (Contains-append_right (put_there e o a c) (wakes a c) (Complete k a) (complete_listed w (after w e s) k a c at (g.allowed (Complete k a) x)))
+
+  -- a sub-batch comes
+  arrived : (k b : ℕ) → Asks asked w s (Arrive k b) → (o : Option Desk) → o ≡ Some s.desk → (cascades a : ℕ) (c : Cell Rest) → b ≡ a → slice_get (after w (Arrive k b) s).cells a ≡ Some c → Among (on_changed (Arrive k b) o a c) es → CellTells asked cascades a c es
+  unfolding after
+  arrived k b g o shown cascades a c same at more = record {
+    run = λ t x y. runs_woken (Arrive k b) g o a c at more t x;
+    send = λ t x y. no (g.touched (Send t a) x);
+    end = λ t x y. no (g.touched (End t a) x);
+    close = λ t x y. elim (cases_Bool (list_any (is_undone t) (batch_entries k m))) [
+      | inl named ↦ put_in_list (Arrive k b) g o a c at more (Close t a) (late t x named)
+      | inr other ↦ absurd (g.refused (Close t a) x (arrive_closes w k b s t a other (g.allowed (Close t a) x)))
+    ];
+    complete = λ j x y. completes_woken (Arrive k b) g o a c at more j x;
+    rollback = λ x y. no (g.touched (Rollback a) x);
+  }
+    where
+      m : Option SubBatch
+      m = sub_of k b s.post.subs
+
+      is : c ≡ batch_placed k m (cell_at s b)
+      is = got s.cells a b (batch_placed k m (cell_at s b)) c at same
+
+      late : (t : ℕ) → asked (Close t a) ≡ true → list_any (is_undone t) (batch_entries k m) ≡ true → Contains (late_by k a o c) (Close t a)
+      late t x named =
+          let ended : is_some (pact_result t s.desk.batches) ≡ true = close_result w (after w (Arrive k b) s) t a (g.allowed (Close t a) x) in
+          subst (λ v. Contains (late_by k a v c) (Close t a)) (sym shown)
+          (in_flat_map (of_late a s.desk) (undone_by k c.entries) t (Close t a)
+          (subst (λ z. Contains (undone_by k z.entries) t) (sym is) (named_by k t (cell_at s b).entries m named))
+          (subst (λ v. Contains (only v (Close t a)) (Close t a)) (sym ended) (first_of_all [] (Close t a))))
+
+  desk_stays : (k b : ℕ) → h.desk ≡ Some (after w (Arrive k b) s).desk → h.desk ≡ Some s.desk
+  unfolding after
+  desk_stays k b e = e
+
+  -- an ACT asks
+  asked_there : (u b : ℕ) → Asks asked w s (Ask u b) → (cascades a : ℕ) (c : Cell Rest) → b ≡ a → Among (cells_listed (Ask u b) h) es → CellTells asked cascades a c es
+  asked_there u b g cascades a c same more = record {
+    run = λ t x y. elim (cases_Bool (u == t)) [
+      | inl own ↦ subst (λ n. Contains es (Run n a)) (eqb-true u t own) (subst (λ n. Contains es (Run u n)) same (more (Run u b) (first_of_all [] (Run u b))))
+      | inr other ↦ absurd (g.refused (Run t a) x (ask_runs w u b s t a other (g.allowed (Run t a) x)))
+    ];
+    send = λ t x y. no (g.touched (Send t a) x);
+    end = λ t x y. no (g.touched (End t a) x);
+    close = λ t x y. absurd (g.refused (Close t a) x (ask_closes w u b s t a (g.allowed (Close t a) x)));
+    complete = λ k x y. absurd (g.refused (Complete k a) x (ask_completes w u b s k a (g.allowed (Complete k a) x)));
+    rollback = λ x y. no (g.touched (Rollback a) x);
+  }
+
+  -- a slice runs
+  ran : (u b : ℕ) → Asks asked w s (Run u b) → (o : Option Desk) (cascades a : ℕ) (c : Cell Rest) → b ≡ a → slice_get (after w (Run u b) s).cells a ≡ Some c → Among (on_changed (Run u b) o a c) es → CellTells asked cascades a c es
+  unfolding after
+  ran u b g o cascades a c same at more = record {
+    run = λ t x y. runs_woken (Run u b) g o a c at more t x;
+    send = λ t x y. taken_on (Send t a) (Contains-append_left (only (has_gone_on u c) (Send u a)) (only (has_ended_on u c) (End u a)) (Send t a)
+        (subst (λ n. Contains (only (has_gone_on n c) (Send n a)) (Send t a)) (sym (eqb-true u t (and_parts (b == a) (u == t) (g.touched (Send t a) x)).1)) (due (Send t a) y)));
+    end = λ t x y. taken_on (End t a) (Contains-append_right (only (has_gone_on u c) (Send u a)) (only (has_ended_on u c) (End u a)) (End t a)
+        (subst (λ n. Contains (only (has_ended_on n c) (End n a)) (End t a)) (sym (eqb-true u t (and_parts (b == a) (u == t) (g.touched (End t a) x)).1)) (due (End t a) y)));
+    close = λ t x y. absurd (settled t (g.touched (Close t a) x) y);
+    complete = λ k x y. completes_woken (Run u b) g o a c at more k x;
+    rollback = λ x y. no (g.touched (Rollback a) x);
+  }
+    where
+      taken_on : Among (left_by u a c) es
+      taken_on f x = put_in_list (Run u b) g o a c at more f x
+
+      due : {v : Bool} (f : Event) → v ≡ true → Contains (only v f) f
+      due f y = subst (λ v. Contains (only v f) f) (sym y) (first_of_all [] f)
+
+      is : c ≡ slice_run w.code u b (cell_at s b)
+      is = got s.cells a b (slice_run w.code u b (cell_at s b)) c at same
+
+      settled : (t : ℕ) → (((b == a) && (u == t)) && is_done_after w.code b (slice_of w.code u (cell_at s b))) ≡ true → has_undone t c.entries ≡ true → ⊥
+      settled t x y =
+          let q = and_parts ((b == a) && (u == t)) (is_done_after w.code b (slice_of w.code u (cell_at s b))) x in
+          let own = eqb-true u t (and_parts (b == a) (u == t) q.0).1 in
+          let entries = (cell_at s b).entries in
+          let done : c.entries ≡ map (done_in u) entries = ap (λ z. z.entries) is ∙ ap (λ v. if v then map (done_in u) entries else entries) q.1 in
+          true≢false (sym y ∙ (ap (has_undone t) done ∙ (ap (λ n. has_undone n (map (done_in u) entries)) (sym own) ∙ done_owes_nothing u entries)))
+
+  -- a PACT is closed
+  closed_there : (u b : ℕ) → Asks asked w s (Close u b) → (o : Option Desk) (cascades a : ℕ) (c : Cell Rest) → b ≡ a → slice_get (after w (Close u b) s).cells a ≡ Some c → Among (on_changed (Close u b) o a c) es → CellTells asked cascades a c es
+  unfolding after
+  closed_there u b g o cascades a c same at more = record {
+    run = λ t x y. runs_woken (Close u b) g o a c at more t x;
+    send = λ t x y. no (g.touched (Send t a) x);
+    end = λ t x y. no (g.touched (End t a) x);
+    close = λ t x y. absurd (settled t (eqb-true u t (and_parts (b == a) (u == t) (g.touched (Close t a) x)).1) y);
+    complete = λ k x y. completes_woken (Close u b) g o a c at more k x;
+    rollback = λ x y. no (g.touched (Rollback a) x);
+  }
+    where
+      settled : (t : ℕ) → u ≡ t → has_undone t c.entries ≡ true → ⊥
+      settled t own y =
+          let entries = (cell_at s b).entries in
+          let is = got s.cells a b (pact_closed u (cell_at s b)) c at same in
+          true≢false (sym y ∙ (ap (λ z. has_undone t z.entries) is ∙ (ap (λ n. has_undone n (map (done_in u) entries)) (sym own) ∙ done_owes_nothing u entries)))
+
+  -- a batch is complete
+  completed : (j b : ℕ) → Asks asked w s (Complete j b) → (o : Option Desk) (cascades a : ℕ) (c : Cell Rest) → slice_get (after w (Complete j b) s).cells a ≡ Some c → Among (on_changed (Complete j b) o a c) es → CellTells asked cascades a c es
+  completed j b g o cascades a c at more = record {
+    run = λ t x y. runs_woken (Complete j b) g o a c at more t x;
+    send = λ t x y. no (g.touched (Send t a) x);
+    end = λ t x y. no (g.touched (End t a) x);
+    close = λ t x y. no (g.touched (Close t a) x);
+    complete = λ k x y. completes_woken (Complete j b) g o a c at more k x;
+    rollback = λ x y. no (g.touched (Rollback a) x);
+  }
+
+  -- an ACT leaves
+  act_gone : (u b : ℕ) → Asks asked w s (Finish u b) → (o : Option Desk) (cascades a : ℕ) (c : Cell Rest) → slice_get (after w (Finish u b) s).cells a ≡ Some c → Among (on_changed (Finish u b) o a c) es → CellTells asked cascades a c es
+  act_gone u b g o cascades a c at more = record {
+    run = λ t x y. runs_woken (Finish u b) g o a c at more t x;
+    send = λ t x y. absurd (g.refused (Send t a) x (finish_sends w u b s t a (g.allowed (Send t a) x)));
+    end = λ t x y. absurd (g.refused (End t a) x (finish_ends w u b s t a (g.allowed (End t a) x)));
+    close = λ t x y. absurd (g.refused (Close t a) x (finish_closes w u b s t a (g.allowed (Close t a) x)));
+    complete = λ k x y. completes_woken (Finish u b) g o a c at more k x;
+    rollback = λ x y. no (g.touched (Rollback a) x);
+  }
+
+  -- a settled batch leaves
+  batch_gone : (j b : ℕ) → Asks asked w s (Trim j b) → (o : Option Desk) (cascades a : ℕ) (c : Cell Rest) → slice_get (after w (Trim j b) s).cells a ≡ Some c → Among (on_changed (Trim j b) o a c) es → CellTells asked cascades a c es
+  batch_gone j b g o cascades a c at more = record {
+    run = λ t x y. runs_woken (Trim j b) g o a c at more t x;
+    send = λ t x y. no (g.touched (Send t a) x);
+    end = λ t x y. no (g.touched (End t a) x);
+    close = λ t x y. absurd (g.refused (Close t a) x (trim_closes w j b s t a (g.allowed (Close t a) x)));
+    complete = λ k x y. completes_woken (Trim j b) g o a c at more k x;
+    rollback = λ x y. no (g.touched (Rollback a) x);
+  }
+
+  module _ (ranges : AllByRecursion (BatchInRange w s) s.desk.batches) (enough : (cascades a : ℕ) (c : Cell Rest) → CellLists asked cascades a c es → CellTells asked cascades a c es) where
+    all_told : (cascades a : ℕ) (c : Cell Rest) → slice_get h.cells a ≡ Some (Some c) → Among (on_place h a) es → CellTells asked cascades a c es
+    all_told cascades a c shown among = enough cascades a c (cell_lists asked es cascades a c (λ f x. among f (subst (λ v. Contains v f) (sym (ap (of_place a) shown)) x)))
+
+    here_told : (e : Event) → Asks asked w s e → Desked (after w e s) h → (cascades a : ℕ) (c : Cell Rest) → here e a ≡ true → slice_get (after w e s).cells a ≡ Some c → slice_get h.cells a ≡ Some (Some c) → Among (cells_listed e h) es → CellTells asked cascades a c es
+    here_told (Arrive k b) g desked cascades a c q at shown more = arrived k b g h.desk (desk_stays k b desked.desk) cascades a c (eqb-true b a q) at (shown_among (Arrive k b) h.desk a b c (eqb-true b a q) shown more)
+    here_told (Ask u b) g desked cascades a c q at shown more = asked_there u b g cascades a c (eqb-true b a q) more
+    here_told (Run u b) g desked cascades a c q at shown more = ran u b g h.desk cascades a c (eqb-true b a q) at (shown_among (Run u b) h.desk a b c (eqb-true b a q) shown more)
+    here_told (Close u b) g desked cascades a c q at shown more = closed_there u b g h.desk cascades a c (eqb-true b a q) at (shown_among (Close u b) h.desk a b c (eqb-true b a q) shown more)
+    here_told (Complete j b) g desked cascades a c q at shown more = completed j b g h.desk cascades a c at (shown_among (Complete j b) h.desk a b c (eqb-true b a q) shown more)
+    here_told (Rollback b) g desked cascades a c q at shown more = all_told cascades a c shown (subst (λ n. Among (on_place h n) es) (eqb-true b a q) more)
+    here_told (Finish u b) g desked cascades a c q at shown more = act_gone u b g h.desk cascades a c at (shown_among (Finish u b) h.desk a b c (eqb-true b a q) shown more)
+    here_told (Trim j b) g desked cascades a c q at shown more = batch_gone j b g h.desk cascades a c at (shown_among (Trim j b) h.desk a b c (eqb-true b a q) shown more)
+    here_told _ g desked cascades a c q at shown more = no q
+
+    plain_told : (e : Event) → is_plain e ≡ true → Asks asked w s e → Desked (after w e s) h → (cascades a : ℕ) (c : Cell Rest) → a < length h.cells → slice_get (after w e s).cells a ≡ Some c → slice_get h.cells a ≡ Some (Some c) → Among (cells_listed e h) es → CellTells asked cascades a c es
+    plain_told e plain g desked cascades a c within at shown more = elim (cases_Bool (is_abort e)) [
+      | inl z ↦ all_told cascades a c shown (abort_listed e a within z more)
+      | inr z ↦ elim (cases_Bool (here e a)) [ inl q ↦ here_told e g desked cascades a c q at shown more | inr q ↦ told_away e g ranges desked cascades a c within at plain z q more ]
+    ]
+
+    cell_told : (e : Event) → Asks asked w s e → Desked (after w e s) h → (cascades a : ℕ) (c : Cell Rest) → a < length h.cells → slice_get (after w e s).cells a ≡ Some c → slice_get h.cells a ≡ Some (Some c) → Among (cells_listed e h) es → CellTells asked cascades a c es
     cell_told (Take u b) g desked cascades a c within at shown more = took u b g cascades a c more
     cell_told (Send u b) g desked cascades a c within at shown more = sent_on u b g cascades a c at
     cell_told (End u b) g desked cascades a c within at shown more = ended u b g desked cascades a c within at more
@@ -287,10 +435,10 @@ module _ (asked : Event → Bool) (w : Fixed Rest) (s : Machine Rest) (h : Parts
 
 -- ---- what the hand shows
 
-place_shown : (w : Fixed Rest) (h : Parts) (t : Machine Rest) → IsHandOf w h → IsWhole h → Fits h t → (a : ℕ) (c : Cell Rest) → a < length h.cells → slice_get t.cells a ≡ Some c → on_place h a ≡ on_cell a c
-place_shown w h t places whole fits a c within at =
+cell_shows : (w : Fixed Rest) (h : Parts) (t : Machine Rest) → IsHandOf w h → IsWhole h → Fits h t → (a : ℕ) (c : Cell Rest) → a < length h.cells → slice_get t.cells a ≡ Some c → slice_get h.cells a ≡ Some (Some c)
+cell_shows w h t places whole fits a c within at =
     let x = cell_is_there h whole w.text.logs a places.logs within in
-    ap (of_place a) x.1 ∙ ap (on_cell a) (same_Some x.0 c (sym (fits.cells a x.0 x.1) ∙ at))
+    x.1 ∙ ap (λ z. Some (Some z)) (same_Some x.0 c (sym (fits.cells a x.0 x.1) ∙ at))
 
 is_within : (w : Fixed Rest) (h : Parts) (t : Machine Rest) → IsHandOf w h → length t.cells ≡ length w.text.opening.states → (a : ℕ) (c : Cell Rest) → slice_get t.cells a ≡ Some c → a < length h.cells
 is_within w h t places sizes a c at = subst (λ n. a < n) (sizes ∙ sym places.cells) (slice_get_within t.cells a c at)
@@ -317,7 +465,7 @@ all_cells_told w e s h es places whole behind ruled goes drawn ranges sizes enou
       there = λ b inside. cell_is_there h whole w.text.logs b places.logs inside;
     } in
     cell_told (is_new w e s) w s h es ranged.batches (λ cascades a c. enough (is_new w e s) cascades a c es) e (asks_of w e s ruled) desked (epoch (after w e s).book) a c within at
-    (place_shown w h (after w e s) places whole behind.fits a c within at) more
+    (cell_shows w h (after w e s) places whole behind.fits a c within at) more
 
 -- ---- what the code finds
 

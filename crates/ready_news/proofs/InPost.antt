@@ -1,31 +1,40 @@
 -- What is listed of the post tells what is new there.
-use Rattle.std.specs.Prelude.{◌≡◌, refl, ℕ, ◌+◌, ◌≤◌, ◌==◌, not, Bool, true, false, ◌||◌, if◌then◌else◌, is_some, max, unwrap_or, Option, Some, None, List, [], ◌∷◌, map, filter, find, Contains}
-use Rattle.std.specs.List.{flat_map}
+use Rattle.std.specs.Prelude.{◌≡◌, refl, ℕ, ◌+◌, ◌≤◌, ◌==◌, not, Bool, true, false, ◌||◌, if◌then◌else◌, ◌&&◌, is_some, max, unwrap_or, Option, Some, None, List, [], ◌∷◌, ◌++◌, map, filter, find, slice_get, Contains}
+use Rattle.std.specs.List.{flat_map, list_any}
 use Rattle.std.specs.Option.{option_map}
 use Rattle.std.proofs.Common.{arith, sym, ap, subst, inl, inr, ◌∙◌}
-use Rattle.std.proofs.lemmas.Bool.{true≢false, eqb-true, eq-eqb}
+use Rattle.std.proofs.lemmas.Bool.{true≢false, and_from, or_cases, eqb-true, eq-eqb}
 use Rattle.std.proofs.lemmas.List.Elements.{Contains-append_left, Contains-append_right}
 use Rattle.aml_slice.specs.Controls.{Rest}
-use Rattle.protocol.specs.Events.{Event, Arrive, DropControl}
+use Rattle.protocol.specs.Conditions.{is_given_up, is_not_doomed}
+use Rattle.protocol.specs.Events.{Event, Arrive, Ask, Take, DropControl}
 use Rattle.protocol.specs.OnBook.{changed_act, change_if}
+use Rattle.protocol.specs.OnCell.{batch_entries, not_done}
 use Rattle.protocol.specs.OnRing.{numbered}
-use Rattle.protocol.specs.Parts.{Act, Pair, Doomed, Pact, SubBatch, ControlMessage, Post}
+use Rattle.protocol.specs.Parts.{Act, Book, Cell, Entry, BatchEntry, Pair, Doomed, Pact, SubBatch, ControlMessage, Post}
 use Rattle.protocol.specs.Spread.{carried, raised, crossed_out, is_crossed}
 use Rattle.protocol.specs.Verdicts.{out_of_order}
-use Rattle.protocol.specs.Words.{act_of, control_of, has_control_to, holds, is_doomed, sub_of}
+use Rattle.protocol.specs.Words.{act_of, control_of, has_act, has_control_to, has_entry, holds, is_batch_entry, is_doomed, is_entry_of, sub_of}
 use Rattle.protocol_ready.proofs.Listing.{Has, from_has, has_filter, has_flat_map, has_map, held, some, found_in}
 use Rattle.protocol_ready.proofs.Offered.{sub_found}
 use Rattle.protocol_ready.proofs.TouchedListed.{no}
+use Rattle.listing_facts.specs.hybrid_schedule.Listed.{undone_by, undone_if, undone_in}
 use Rattle.listing_facts.specs.post_box.Listed.{control_places, places_to, sub_places}
-use Rattle.listing_facts.specs.post_box.Posting.{message_to}
+use Rattle.listing_facts.specs.post_box.Posting.{message_to, message_who}
 use Rattle.ready_listing.specs.Listed.{of_control, of_sub, on_post}
-use Rattle.ready_news.specs.InPost.{of_arrival, of_coming, of_target, arrivals_to, comings_to, on_control}
+use Rattle.ready_listing.proofs.Lists.{first_of_all, in_flat_map}
+use Rattle.ready_news.specs.InBook.{only}
+use Rattle.ready_news.specs.InPost.{comes_to, goes_to, is_at, is_dropped, is_new_in, is_placed_in, may_in, of_arrival, of_coming, arrivals_to, comings_to, on_control, takes_at, takes_by}
 
 -- ---- words
 
 pub left_or : (b c : Bool) → (b || c) ≡ true → (c ≡ true → b ≡ true) → b ≡ true
 left_or true c h g = refl
 left_or false c h g = g h
+
+pub where_so : (p : Bool) (f : Event) → p ≡ true → Contains (only p f) f
+where_so true f h = first_of_all [] f
+where_so false f h = no h
 
 pub find_gone : {X : Type 0} (p : X → Bool) (xs : List X) → find p (filter (λ x. not (p x)) xs) ≡ None
 find_gone p [] = refl
@@ -68,16 +77,6 @@ module _ (p : Post Rest) where
       let m = held (λ m. m.to == a) (control_of t p.controls) h in
       place_to of_coming (control_places p.controls) t a b e (control_there t a p.controls m.it m.is (eqb-true m.it.to a m.does)) same g
 
-  pub in_control : (t a : ℕ) (e : Event) → has_control_to t a p.controls ≡ true → Has (of_control (t, a)) e → Contains (on_control t p) e
-  in_control t a e h g =
-      let m = held (λ m. m.to == a) (control_of t p.controls) h in
-      subst (λ o. Contains (of_target t (option_map message_to o)) e) (sym m.is) (subst (λ n. Contains (of_control (t, n)) e) (sym (eqb-true m.it.to a m.does)) (from_has (of_control (t, a)) e g))
-
-  pub drop_in_control : (t : ℕ) → is_some (control_of t p.controls) ≡ true → Contains (on_control t p) (DropControl t)
-  drop_in_control t h =
-      let m = some (control_of t p.controls) h in
-      subst (λ o. Contains (of_target t (option_map message_to o)) (DropControl t)) (sym m.is) (from_has (of_control (t, m.it.to)) (DropControl t) (inr (inr (inl refl))))
-
   -- ---- all that is under way
 
   pub all_subs : (k a : ℕ) (e : Event) → is_some (sub_of k a p.subs) ≡ true → Has (of_sub (k, a)) e → Contains (on_post p) e
@@ -92,6 +91,76 @@ module _ (p : Post Rest) where
   all_drops t h =
       let m = some (control_of t p.controls) h in
       Contains-append_right (flat_map of_sub (sub_places p.subs)) (flat_map of_control (control_places p.controls)) (DropControl t) (place_in of_control (control_places p.controls) (t, m.it.to) (DropControl t) (control_there t m.it.to p.controls m.it m.is refl) (inr (inr (inl refl))))
+
+-- ---- a control that was posted
+
+holds_map : {X Y : Type 0} (f : X → Y) (p : Y → Bool) (o : Option X) → holds (λ x. p (f x)) o ≡ true → holds p (option_map f o) ≡ true
+holds_map f p None h = h
+holds_map f p (Some x) h = h
+
+-- where the cells at hand are those of the actors
+abbrev pub AreShown : List (Option (Cell Rest)) → List (Cell Rest) → Type 0
+AreShown cells xs = (a : ℕ) (x : Cell Rest) → slice_get cells a ≡ Some (Some x) → slice_get xs a ≡ Some x
+
+pub may_shown : (test : Cell Rest → Bool) (cells : List (Option (Cell Rest))) (xs : List (Cell Rest)) (a : ℕ) → AreShown cells xs → holds test (slice_get xs a) ≡ true → may_in test (slice_get cells a) ≡ true
+may_shown test cells xs a shown h = by (slice_get cells a) refl
+  where
+    by : (o : Option (Option (Cell Rest))) → slice_get cells a ≡ o → may_in test o ≡ true
+    by None e = refl
+    by (Some None) e = refl
+    by (Some (Some c)) e = subst (λ o. holds test o ≡ true) (shown a c e) h
+
+pub goes_where : (t a : ℕ) (p : Post Rest) → has_control_to t a p.controls ≡ true → goes_to t a p ≡ true
+goes_where t a p h = by (control_of t p.controls) h
+  where
+    by : (o : Option (ControlMessage Rest)) → holds (λ m. m.to == a) o ≡ true → is_at a (option_map message_to o) ≡ true
+    by None h = h
+    by (Some m) h = h
+
+module _ (cells : List (Option (Cell Rest))) (b : Book) (p : Post Rest) where
+  coming_in_control : (t a : ℕ) (f : Event) → has_control_to t a p.controls ≡ true → Contains (comes_to t cells (is_not_doomed t b.acts) (Some a)) f → Contains (on_control t cells b p) f
+  coming_in_control t a f h c =
+      let m = held (λ m. m.to == a) (control_of t p.controls) h in
+      Contains-append_left (comes_to t cells (is_not_doomed t b.acts) (option_map message_to (control_of t p.controls))) (only (is_dropped t b p) (DropControl t)) f
+      (subst (λ o. Contains (comes_to t cells (is_not_doomed t b.acts) (option_map message_to o)) f) (sym m.is) (subst (λ n. Contains (comes_to t cells (is_not_doomed t b.acts) (Some n)) f) (sym (eqb-true m.it.to a m.does)) c))
+
+  pub ask_in_control : (t a : ℕ) (xs : List (Cell Rest)) → AreShown cells xs → has_control_to t a p.controls ≡ true → is_not_doomed t b.acts ≡ true → holds (λ c. not (has_act t c.entries)) (slice_get xs a) ≡ true → Contains (on_control t cells b p) (Ask t a)
+  ask_in_control t a xs shown h undoomed free =
+      let here = only (is_not_doomed t b.acts && is_new_in t (slice_get cells a)) (Ask t a) in
+      coming_in_control t a (Ask t a) h
+      (Contains-append_left here (only (is_placed_in t (slice_get cells a)) (Take t a)) (Ask t a)
+      (where_so (is_not_doomed t b.acts && is_new_in t (slice_get cells a)) (Ask t a) (and_from (is_not_doomed t b.acts) (is_new_in t (slice_get cells a)) undoomed (may_shown (λ c. not (has_act t c.entries)) cells xs a shown free))))
+
+  pub take_in_control : (t a : ℕ) (xs : List (Cell Rest)) → AreShown cells xs → has_control_to t a p.controls ≡ true → holds (λ c. has_entry t c.entries) (slice_get xs a) ≡ true → Contains (on_control t cells b p) (Take t a)
+  take_in_control t a xs shown h placed =
+      let here = only (is_not_doomed t b.acts && is_new_in t (slice_get cells a)) (Ask t a) in
+      coming_in_control t a (Take t a) h
+      (Contains-append_right here (only (is_placed_in t (slice_get cells a)) (Take t a)) (Take t a)
+      (where_so (is_placed_in t (slice_get cells a)) (Take t a) (may_shown (λ c. has_entry t c.entries) cells xs a shown placed)))
+
+  pub drop_in_control : (t : ℕ) → holds (λ m. is_given_up m.who b) (control_of t p.controls) ≡ true → Contains (on_control t cells b p) (DropControl t)
+  drop_in_control t h =
+      Contains-append_right (comes_to t cells (is_not_doomed t b.acts) (option_map message_to (control_of t p.controls))) (only (is_dropped t b p) (DropControl t)) (DropControl t)
+      (where_so (is_dropped t b p) (DropControl t) (holds_map message_who (λ who. is_given_up who b) (control_of t p.controls) h))
+
+-- ---- a sub-batch that has arrived lets controls in
+
+undone_all : (t : ℕ) (tids : List ℕ) → list_any (λ s. s.tid == t) (map not_done tids) ≡ true → Has (undone_in (map not_done tids)) t
+undone_all t [] h = no h
+undone_all t (n ∷ ns) h = elim (or_cases (n == t) (list_any (λ s. s.tid == t) (map not_done ns)) h) [ inl e ↦ inl (eqb-true n t e) | inr i ↦ inr (undone_all t ns i) ]
+
+undone_new : (t k : ℕ) (es : List Entry) (m : Option SubBatch) → list_any (is_entry_of t) (batch_entries k m) ≡ true → Contains (undone_by k (es ++ batch_entries k m)) t
+undone_new t k es None h = no h
+undone_new t k es (Some m) h =
+    let new = BatchEntry (record { bid = k; slots = map not_done m.tids; complete = false }) in
+    let slots = undone_in (map not_done m.tids) in
+    in_flat_map (λ e. undone_if (is_batch_entry k e) e) (es ++ new ∷ []) new t (Contains-append_right es (new ∷ []) new (first_of_all [] new))
+    (subst (λ c. Contains (if c then slots else []) t) (sym (eq-eqb k k refl)) (from_has slots t (undone_all t m.tids (left_or (list_any (λ s. s.tid == t) (map not_done m.tids)) false h no))))
+
+pub let_in : (p : Post Rest) (t k a : ℕ) (c : Cell Rest) (es : List Entry) (m : Option SubBatch) → c.entries ≡ es ++ batch_entries k m → has_control_to t a p.controls ≡ true → list_any (is_entry_of t) (batch_entries k m) ≡ true → Contains (takes_by k a (Some (Some c)) p) (Take t a)
+let_in p t k a c es m is h new =
+    in_flat_map (takes_at a p) (undone_by k c.entries) t (Take t a) (subst (λ v. Contains (undone_by k v) t) (sym is) (undone_new t k es m new))
+    (where_so (goes_to t a p) (Take t a) (goes_where t a p h))
 
 -- ---- a batch is formed
 

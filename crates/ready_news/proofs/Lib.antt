@@ -2,6 +2,8 @@ pub mod Common
 pub mod Behind
 pub mod Fallen
 pub mod InDesk
+pub mod BookBefore
+pub mod NotDurable
 pub mod InBook
 pub mod Replies
 pub mod NewReplies
@@ -10,13 +12,17 @@ pub mod OffActors
 pub mod Cascading
 pub mod GivenUp
 pub mod AfterRuns
+pub mod NewBatch
 pub mod AfterAsk
 pub mod InAnswers
 pub mod Counted
 pub mod InRing
 pub mod InPost
 pub mod NewDrops
+pub mod NewBatches
 pub mod PostTold
 pub mod Closing
+pub mod Waking
 pub mod InCells
 pub mod Together
+pub mod AheadOfSync

@@ -6,7 +6,7 @@ use Rattle.std.proofs.lemmas.Bool.{true≢false}
 use Rattle.aml_slice.specs.Controls.{Rest}
 use Rattle.ready_listing.specs.Listed.{of_reply}
 use Rattle.ready_listing.proofs.Lists.{first_of_all, in_flat_map}
-use Rattle.protocol.specs.Conditions.{conditions, refusal}
+use Rattle.protocol.specs.Conditions.{conditions, refusal, may_leave}
 use Rattle.protocol.specs.Effects.{after, cell_at}
 use Rattle.protocol.specs.Events.{Event, Admit, End, Settle, Decide, Seal, Reply}
 use Rattle.protocol.specs.Fixed.{Fixed, Next, Go, Ended}
@@ -19,10 +19,10 @@ use Rattle.protocol.specs.Words.{holds, act_of, batch_of, has_act, outcome_of, i
 use Rattle.protocol_ready.specs.Touched.{is_touched}
 use Rattle.listing_facts.specs.batch_table.Listed.{txs_at}
 use Rattle.book_part.specs.order_book.Asked.{tx_of}
-use Rattle.ready_news.specs.InAnswers.{replies_of, of_tx, of_txs}
+use Rattle.ready_news.specs.InAnswers.{replies_of, of_tx, of_tx_if, of_over, of_txs}
 use Rattle.ready_news.specs.New.{is_new}
 use Rattle.ready_news.proofs.Common.{new_was_refused}
-use Rattle.ready_news.proofs.Replies.{either_some, first_some, added_same, named_is, tx_changed, batch_has, txs_settled, pacts_same, acts_same}
+use Rattle.ready_news.proofs.Replies.{either_some, first_some, added_same, named_is, tx_changed, batch_has, txs_settled, pacts_same, acts_same, acts_quiet}
 
 -- ---- what was refused before had no verdict
 
@@ -36,31 +36,42 @@ was_none w e s n q h g = absurd (true≢false (sym (reply_was w s n h g) ∙ new
 pub reply_in : (b : Book) (t n : ℕ) → tx_of (act_of t b.acts) ≡ Some n → Contains (of_tx b t) (Reply n)
 reply_in b t n e = subst (λ o. Contains (replies_of o) (Reply n)) (sym e) (first_of_all [] (Reply n))
 
+pub over_in : (b : Book) (t n : ℕ) → may_leave t b.acts ≡ true → tx_of (act_of t b.acts) ≡ Some n → Contains (of_over b t) (Reply n)
+over_in b t n over e = subst (λ c. Contains (of_tx_if c b t) (Reply n)) (sym over) (reply_in b t n e)
+
 pub txs_in : (d : Desk) (k n : ℕ) → Contains (txs_at (batch_of k d.batches)) n → Contains (of_txs d k) (Reply n)
 txs_in d k n c = in_flat_map of_reply (txs_at (batch_of k d.batches)) n (Reply n) c (first_of_all [] (Reply n))
 
 -- ---- an event that changes one ACT
 
--- a change of ACT t, where the batches and the cascades stay
+-- a change of ACT t, where the batches and the cascades stay: it is given up or sealed then, and it is the one that is meant
 pub one_changed : (w : Fixed Rest) (e : Event) (s : Machine Rest) (t n : ℕ) (f : Act → Act) → ((x : Act) → (f x).tid ≡ x.tid) → ((x : Act) → (f x).tx ≡ x.tx) → times t (map (λ x. x.tid) s.book.acts) ≤ 1
     → is_new w e s (Reply n) ≡ true → holds not (slice_get s.desk.replied n) ≡ true
     → is_some (or_else (verdict_of_pact s.book.cascades n s.desk.batches) (verdict_of_act n (book.changed_act t f s.book.acts))) ≡ true
-    → tx_of (act_of t (book.changed_act t f s.book.acts)) ≡ Some n
-one_changed w e s t n f i j once q h v = by (list_any (λ x. (x.tid == t) && (x.tx == n)) s.book.acts) refl
+    → (may_leave t (book.changed_act t f s.book.acts) ≡ true) × (tx_of (act_of t (book.changed_act t f s.book.acts)) ≡ Some n)
+one_changed w e s t n f i j once q h v = by (list_any (λ x. (x.tid == t) && (x.tx == n)) s.book.acts) (may_leave t (book.changed_act t f s.book.acts)) refl refl
   where
-    by : (c : Bool) → list_any (λ x. (x.tid == t) && (x.tx == n)) s.book.acts ≡ c → tx_of (act_of t (book.changed_act t f s.book.acts)) ≡ Some n
-    by true g = tx_changed t t f s.book.acts i j ∙ named_is t n s.book.acts once g
-    by false g = was_none w e s n q h (either_some (verdict_of_pact s.book.cascades n s.desk.batches) (verdict_of_act n (book.changed_act t f s.book.acts)) (verdict_of_act n s.book.acts) (acts_same n t f s.book.acts j g) v)
+    none : {X : Type 0} → (is_some (verdict_of_act n (book.changed_act t f s.book.acts)) ≡ true → is_some (verdict_of_act n s.book.acts) ≡ true) → X
+    none k = was_none w e s n q h (either_some (verdict_of_pact s.book.cascades n s.desk.batches) (verdict_of_act n (book.changed_act t f s.book.acts)) (verdict_of_act n s.book.acts) k v)
+
+    by : (c d : Bool) → list_any (λ x. (x.tid == t) && (x.tx == n)) s.book.acts ≡ c → may_leave t (book.changed_act t f s.book.acts) ≡ d → (may_leave t (book.changed_act t f s.book.acts) ≡ true) × (tx_of (act_of t (book.changed_act t f s.book.acts)) ≡ Some n)
+    by true true g over = (over, tx_changed t t f s.book.acts i j ∙ named_is t n s.book.acts once g)
+    by false true g over = none (acts_same n t f s.book.acts j g)
+    by c false g over = none (acts_quiet n t f s.book.acts i j once over)
 
 pub sealed_told : (w : Fixed Rest) (s : Machine Rest) (t n : ℕ) → times t (map (λ x. x.tid) s.book.acts) ≤ 1 → is_new w (Seal t) s (Reply n) ≡ true → holds not (slice_get (after w (Seal t) s).desk.replied n) ≡ true
-    → is_some (verdict n (after w (Seal t) s).book (after w (Seal t) s).desk) ≡ true → Contains (of_tx (after w (Seal t) s).book t) (Reply n)
+    → is_some (verdict n (after w (Seal t) s).book (after w (Seal t) s).desk) ≡ true → Contains (of_over (after w (Seal t) s).book t) (Reply n)
 unfolding after
-sealed_told w s t n once q h v = reply_in (book.act_sealed t s.book) t n (one_changed w (Seal t) s t n book.sealed (λ x. refl) (λ x. refl) once q h v)
+sealed_told w s t n once q h v =
+    let it = one_changed w (Seal t) s t n book.sealed (λ x. refl) (λ x. refl) once q h v in
+    over_in (book.act_sealed t s.book) t n it.0 it.1
 
 pub decided_told : (w : Fixed Rest) (s : Machine Rest) (t n : ℕ) → times t (map (λ x. x.tid) s.book.acts) ≤ 1 → is_new w (Decide t) s (Reply n) ≡ true → holds not (slice_get (after w (Decide t) s).desk.replied n) ≡ true
-    → is_some (verdict n (after w (Decide t) s).book (after w (Decide t) s).desk) ≡ true → Contains (of_tx (after w (Decide t) s).book t) (Reply n)
+    → is_some (verdict n (after w (Decide t) s).book (after w (Decide t) s).desk) ≡ true → Contains (of_over (after w (Decide t) s).book t) (Reply n)
 unfolding after
-decided_told w s t n once q h v = reply_in (book.act_decided t s.book) t n (one_changed w (Decide t) s t n (book.decided_as s.book.next_c) (λ x. refl) (λ x. refl) once q h v)
+decided_told w s t n once q h v =
+    let it = one_changed w (Decide t) s t n (book.decided_as s.book.next_c) (λ x. refl) (λ x. refl) once q h v in
+    over_in (book.act_decided t s.book) t n it.0 it.1
 
 -- ---- an ACT that begins
 
@@ -103,6 +114,19 @@ module _ (n t : ℕ) (acts : List Act) where
   act_ended_same true o g h = act_from o g h
   act_ended_same false o g h = h
 
+  module _ (once : times t (map (λ x. x.tid) acts) ≤ 1) where
+    quiet_next : (x : Next Rest) → may_leave t (book.noted_for t x acts) ≡ false → is_some (verdict_of_act n (book.noted_for t x acts)) ≡ true → is_some (verdict_of_act n acts) ≡ true
+    quiet_next (Go b c) g h = h
+    quiet_next (Ended r) g h = acts_quiet n t (book.with_result r) acts (λ x. refl) (λ x. refl) once g h
+
+    quiet_from : (o : Option (Outcome Rest)) → may_leave t (book.noted_from t o acts) ≡ false → is_some (verdict_of_act n (book.noted_from t o acts)) ≡ true → is_some (verdict_of_act n acts) ≡ true
+    quiet_from None g h = h
+    quiet_from (Some x) g h = quiet_next x.next g h
+
+    pub act_ended_quiet : (is_act : Bool) (o : Option (Outcome Rest)) → may_leave t (if is_act then book.noted_from t o acts else acts) ≡ false → is_some (verdict_of_act n (if is_act then book.noted_from t o acts else acts)) ≡ true → is_some (verdict_of_act n acts) ≡ true
+    act_ended_quiet true o g h = quiet_from o g h
+    act_ended_quiet false o g h = h
+
   tx_next : (x : Next Rest) → tx_of (act_of t (book.noted_for t x acts)) ≡ tx_of (act_of t acts)
   tx_next (Go b c) = refl
   tx_next (Ended r) = tx_changed t t (book.with_result r) acts (λ x. refl) (λ x. refl)
@@ -116,21 +140,20 @@ module _ (n t : ℕ) (acts : List Act) where
   tx_ended false o = refl
 
 pub ended_told : (w : Fixed Rest) (s : Machine Rest) (t a n : ℕ) → times t (map (λ x. x.tid) s.book.acts) ≤ 1 → AllByRecursion (λ b. is_settled b.stage ≡ true → AllByRecursion (λ p. is_some p.result ≡ true) b.pacts) s.desk.batches
-    → is_new w (End t a) s (Reply n) ≡ true → holds not (slice_get (after w (End t a) s).desk.replied n) ≡ true → is_some (verdict n (after w (End t a) s).book (after w (End t a) s).desk) ≡ true → Contains (of_tx (after w (End t a) s).book t) (Reply n)
+    → is_new w (End t a) s (Reply n) ≡ true → holds not (slice_get (after w (End t a) s).desk.replied n) ≡ true → is_some (verdict n (after w (End t a) s).book (after w (End t a) s).desk) ≡ true → Contains (of_over (after w (End t a) s).book t) (Reply n)
 unfolding after
-ended_told w s t a n once results q h v = by (list_any (λ x. (x.tid == t) && (x.tx == n)) s.book.acts) refl
+ended_told w s t a n once results q h v = by (list_any (λ x. (x.tid == t) && (x.tx == n)) s.book.acts) (may_leave t (book.act_ended t (has_act t (cell_at s a).entries) (outcome_of t (cell_at s a).outbox) s.book).acts) refl refl
   where
-    is_act : Bool
-    is_act = has_act t (cell_at s a).entries
-
-    left : Option (Outcome Rest)
-    left = outcome_of t (cell_at s a).outbox
-
-    by : (c : Bool) → list_any (λ x. (x.tid == t) && (x.tx == n)) s.book.acts ≡ c → Contains (of_tx (book.act_ended t (has_act t (cell_at s a).entries) (outcome_of t (cell_at s a).outbox) s.book) t) (Reply n)
-    by true g = reply_in (book.act_ended t (has_act t (cell_at s a).entries) (outcome_of t (cell_at s a).outbox) s.book) t n (tx_ended n t s.book.acts (has_act t (cell_at s a).entries) (outcome_of t (cell_at s a).outbox) ∙ named_is t n s.book.acts once g)
-    by false g =
+    none : {X : Type 0} → (is_some (verdict_of_act n (if has_act t (cell_at s a).entries then book.noted_from t (outcome_of t (cell_at s a).outbox) s.book.acts else s.book.acts)) ≡ true → is_some (verdict_of_act n s.book.acts) ≡ true) → X
+    none k =
         let pacts = verdict_of_pact s.book.cascades n s.desk.batches in
         let acts = verdict_of_act n (if has_act t (cell_at s a).entries then book.noted_from t (outcome_of t (cell_at s a).outbox) s.book.acts else s.book.acts) in
         was_none w (End t a) s n q h
-        (either_some pacts acts (verdict_of_act n s.book.acts) (act_ended_same n t s.book.acts (has_act t (cell_at s a).entries) (outcome_of t (cell_at s a).outbox) g)
+        (either_some pacts acts (verdict_of_act n s.book.acts) k
         (first_some (verdict_of_pact s.book.cascades n (if has_act t (cell_at s a).entries then s.desk.batches else desk.noted_from t (outcome_of t (cell_at s a).outbox) s.desk.batches)) pacts acts (ended_same n t s.book.cascades s.desk.batches results (has_act t (cell_at s a).entries) (outcome_of t (cell_at s a).outbox)) v))
+
+    by : (c d : Bool) → list_any (λ x. (x.tid == t) && (x.tx == n)) s.book.acts ≡ c → may_leave t (book.act_ended t (has_act t (cell_at s a).entries) (outcome_of t (cell_at s a).outbox) s.book).acts ≡ d
+        → Contains (of_over (book.act_ended t (has_act t (cell_at s a).entries) (outcome_of t (cell_at s a).outbox) s.book) t) (Reply n)
+    by true true g over = over_in (book.act_ended t (has_act t (cell_at s a).entries) (outcome_of t (cell_at s a).outbox) s.book) t n over (tx_ended n t s.book.acts (has_act t (cell_at s a).entries) (outcome_of t (cell_at s a).outbox) ∙ named_is t n s.book.acts once g)
+    by false true g over = none (act_ended_same n t s.book.acts (has_act t (cell_at s a).entries) (outcome_of t (cell_at s a).outbox) g)
+    by c false g over = none (act_ended_quiet n t s.book.acts once (has_act t (cell_at s a).entries) (outcome_of t (cell_at s a).outbox) over)

@@ -4,12 +4,15 @@ use Rattle.std.specs.List.{list_any, AllByRecursion}
 use Rattle.std.proofs.Common.{sym, ap, subst, inl, inr, ◌∙◌}
 use Rattle.std.proofs.lemmas.Bool.{true≢false, and_parts, eqb-true, eq-eqb, cases_Bool}
 use Rattle.std.proofs.lemmas.List.Elements.{Contains-append_left, Contains-append_right}
+use Rattle.std.proofs.lemmas.Option.{same_Some}
 use Rattle.aml_slice.specs.Controls.{Rest}
 use Rattle.protocol.specs.Conditions.{IsAllowed, conditions, epoch, is_given_up, refusal}
 use Rattle.protocol.specs.Effects.{after, cell_at, no_cell}
 use Rattle.protocol.specs.Events.{Event, Submit, Pass, Form, Admit, Arrive, Ask, Take, Run, Send, End, Close, Complete, Sync, Note, Commit, Settle, Abort, Rollback, DropSub, DropControl, Prepare, Vouch, Decide, Seal, Finish, Reply, Trim}
 use Rattle.protocol.specs.Fixed.{Fixed}
 use Rattle.protocol.specs.OnBook.{asked_acts, batch_arrived, change_if, changed_act, doomed_by, has_left, joins, lowered, marked, new_pairs, tids_on}
+use Rattle.protocol.specs.OnPost.{sub_taken}
+use Rattle.protocol.specs.OnRing.{next_pacts}
 use Rattle.protocol.specs.OnCell.{act_entries, act_left, act_placed, batch_entries, batch_left, batch_placed}
 use Rattle.protocol.specs.Numbers.{times}
 use Rattle.protocol.specs.Parts.{Act, Book, Doomed, Entry, BatchEntry, ActEntry, Who, OfBatch, OfAct, SubBatch, ControlMessage, Post, Cell, Machine}
@@ -25,15 +28,17 @@ use Rattle.protocol_ready.specs.Touched.{is_touched, changes_who, changes_doom}
 use Rattle.protocol_ready.proofs.Listing.{held, found_in}
 use Rattle.protocol_ready.proofs.TouchedListed.{no}
 use Rattle.protocol_ready.proofs.TouchedParts.{find_filter}
-use Rattle.ready_news.specs.New.{is_new}
-use Rattle.ready_news.specs.InPost.{arrivals_to, comings_to, given_up_drops, of_drops, of_post, on_control}
+use Rattle.snap_hand.specs.Hands.{Parts}
+use Rattle.ready_news.specs.New.{IsBehind, is_new}
+use Rattle.ready_news.specs.InBook.{only}
+use Rattle.ready_news.specs.InPost.{arrivals_to, comings_to, formed_listed, given_up_drops, goes_to, of_drops, of_post, of_sent, on_control, takes_by}
 use Rattle.ready_listing.specs.Listed.{on_post}
-use Rattle.ready_listing.proofs.Lists.{first_of_all}
 use Rattle.ready_news.proofs.Common.{Among, new_is_touched, new_is_allowed, new_was_refused}
 use Rattle.ready_news.proofs.AfterRuns.{Holding, IsOwn, on_schedule}
 use Rattle.ready_news.proofs.Asking.{behind_at, group_at, older_at}
 use Rattle.ready_news.proofs.GivenUp.{Known, arrival_fallen, ask_fallen}
-use Rattle.ready_news.proofs.InPost.{left_or, find_gone, nowhere, arrival_in, coming_in, in_control, drop_in_control, all_subs, all_controls, all_drops, holds_back, crossed_back, raised_back, changed_back}
+use Rattle.ready_news.proofs.NewBatches.{AreDrawn, are_drawn, formed_arrives, formed_asks, formed_drops, formed_drops_sub, formed_takes}
+use Rattle.ready_news.proofs.InPost.{AreShown, left_or, find_gone, goes_where, let_in, nowhere, arrival_in, ask_in_control, coming_in, drop_in_control, take_in_control, where_so, all_subs, all_controls, all_drops, holds_back, crossed_back, raised_back, changed_back}
 use Rattle.ready_news.proofs.NewDrops.{IsGivenUp, all_are, crossed_found, fallen_dropped, joined_doom, lowered_doom}
 
 -- ---- what was taken is gone, and the rest is there
@@ -208,6 +213,15 @@ asks_of w e s ruled = record {
   refused = λ f q a. true≢false (sym (eq-eqb (refusal w f s) 0 ((ruled w f s).1 a)) ∙ new_was_refused w e s f q);
 }
 
+-- what is known of the event: it was allowed, all numbers were drawn, and these cells are the actors' after it
+pub record Around (w : Fixed Rest) (s : Machine Rest) (e : Event) (cells : List (Option (Cell Rest))) : Type 0 where
+  pub ok : IsAllowed w e s
+  pub drawn : AreDrawn s
+  pub shown : AreShown cells (after w e s).cells
+
+pub around_of : (w : Fixed Rest) (e : Event) (s : Machine Rest) (h : Parts) → IsBehind w e s h → Around w s e h.cells
+around_of w e s h behind = record { ok = behind.allowed; drawn = are_drawn w e s behind.run behind.allowed; shown = behind.fits.cells }
+
 -- one or nothing
 pub first_only : (b : Bool) → (b || false) ≡ true → b ≡ true
 first_only b h = left_or b false h no
@@ -271,11 +285,39 @@ ask_dropped asked w s u b t before later g q other =
     let v = newly_given_up asked w s (Ask u b) t before.own g q (others_stay u t s.post.controls other) touched in
     asked_dropped older group u b m t s.book (after w (Ask u b) s).book before.known refl later.known.once other v.0 v.1
 
+-- ---- a control that a sub-batch lets in
+
+-- the cell that was put in
+put_there : (xs : List (Cell Rest)) (i : ℕ) (y c : Cell Rest) → slice_get (slice_set xs i y) i ≡ Some c → c ≡ y
+put_there [] i y c e = absurd (cc e)
+put_there (x ∷ xs) zero y c e = sym (same_Some y c e)
+put_there (x ∷ xs) (suc i) y c e = put_there xs i y c e
+
+let_here : (w : Fixed Rest) (k b : ℕ) (s : Machine Rest) (t : ℕ) (cells : List (Option (Cell Rest))) → AreShown cells (after w (Arrive k b) s).cells → IsAllowed w (Take t b) (after w (Arrive k b) s) → (IsAllowed w (Take t b) s → ⊥)
+    → Contains (takes_by k b (slice_get cells b) (after w (Arrive k b) s).post) (Take t b)
+unfolding conditions after
+let_here w k b s t cells shown c refused = by (slice_get cells b) refl (list_any (is_entry_of t) (batch_entries k (sub_of k b s.post.subs))) refl
+  where
+    by : (o : Option (Option (Cell Rest))) → slice_get cells b ≡ o → (v : Bool) → list_any (is_entry_of t) (batch_entries k (sub_of k b s.post.subs)) ≡ v → Contains (takes_by k b o (sub_taken k b s.post)) (Take t b)
+    by None e v f = coming_in (sub_taken k b s.post) t b b (Take t b) c.0 (eq-eqb b b refl) (inr (inl refl))
+    by (Some None) e v f = coming_in (sub_taken k b s.post) t b b (Take t b) c.0 (eq-eqb b b refl) (inr (inl refl))
+    by (Some (Some x)) e true f =
+        let is = put_there s.cells b (batch_placed k (sub_of k b s.post.subs) (cell_at s b)) x (shown b x e) in
+        let_in (sub_taken k b s.post) t k b x (cell_at s b).entries (sub_of k b s.post.subs) (ap (λ z. z.entries) is) c.0 f
+    by (Some (Some x)) e false f =
+        absurd (refused (c.0, (set_back (λ c. has_entry t c.entries) s.cells b b (batch_placed k (sub_of k b s.post.subs) (cell_at s b)) (any_front (is_entry_of t) (cell_at s b).entries (batch_entries k (sub_of k b s.post.subs)) f) c.1.0, tt)))
+
+arrive_takes : (w : Fixed Rest) (k b : ℕ) (s : Machine Rest) (t a : ℕ) (cells : List (Option (Cell Rest))) → AreShown cells (after w (Arrive k b) s).cells → (b == a) ≡ true → IsAllowed w (Take t a) (after w (Arrive k b) s) → (IsAllowed w (Take t a) s → ⊥)
+    → Contains (takes_by k b (slice_get cells b) (after w (Arrive k b) s).post) (Take t a)
+arrive_takes w k b s t a cells shown e c refused =
+    subst (λ n. IsAllowed w (Take t n) (after w (Arrive k b) s) → (IsAllowed w (Take t n) s → ⊥) → Contains (takes_by k b (slice_get cells b) (after w (Arrive k b) s).post) (Take t n)) (eqb-true b a e)
+    (λ c refused. let_here w k b s t cells shown c refused) c refused
+
 -- ---- by event
 
-module _ (asked : Event → Bool) (w : Fixed Rest) (s : Machine Rest) (before : Holding w s) (es : List Event) where
+module _ (asked : Event → Bool) (w : Fixed Rest) (s : Machine Rest) (before : Holding w s) (cells : List (Option (Cell Rest))) (es : List Event) where
   abbrev Told : Event → Type 0
-  Told e = Holding w (after w e s) → Asks asked w s e → Among (of_post e (after w e s).post) es → Among (of_drops e (after w e s).book) es → PostTells asked (after w e s).post es
+  Told e = Holding w (after w e s) → Asks asked w s e → Around w s e cells → Among (of_post e cells (after w e s).desk (after w e s).post) es → Among (of_sent e cells (after w e s).book (after w e s).post) es → Among (of_drops e (after w e s).book) es → PostTells asked (after w e s).post es
 
   all_told : (p : Post Rest) → Among (on_post p) es → PostTells asked p es
   all_told p more = record {
@@ -286,42 +328,74 @@ module _ (asked : Event → Bool) (w : Fixed Rest) (s : Machine Rest) (before : 
     drop_control = λ t q h. more (DropControl t) (all_drops p t h);
   }
 
-  form_told : (j : ℕ) → Told (Form j)
-  form_told j later g more drops = all_told (after w (Form j) s).post more
+  same_batch : (j k a : ℕ) → (j == k) ≡ true → Contains (formed_listed j (after w (Form j) s).desk) (Arrive j a) → Contains (formed_listed j (after w (Form j) s).desk) (Arrive k a)
+  same_batch j k a e c = subst (λ n. Contains (formed_listed j (after w (Form j) s).desk) (Arrive n a)) (eqb-true j k e) c
 
-  of_one : (u t a : ℕ) (p : Post Rest) (f : Event) → (u == t) ≡ true → Contains (on_control t p) f → Contains (on_control u p) f
-  of_one u t a p f e c = subst (λ n. Contains (on_control n p) f) (sym (eqb-true u t e)) c
+  form_told : (j : ℕ) → Told (Form j)
+  form_told j later g around more sent drops =
+      let p = (after w (Form j) s).post in
+      record {
+        arrive = λ k a q h.
+            let e = first_only (j == k) (first_only ((j == k) || false) (g.touched (Arrive k a) q)) in
+            more (Arrive k a) (same_batch j k a e (formed_arrives w j s around.ok around.drawn a (subst (λ n. is_some (sub_of n a p.subs) ≡ true) (sym (eqb-true j k e)) h)));
+        drop_sub = λ k a q h.
+            let e = first_only (j == k) (g.touched (DropSub k a) q) in
+            absurd (formed_drops_sub w j s around.ok around.drawn a (subst (λ n. IsAllowed w (DropSub n a) (after w (Form j) s)) (sym (eqb-true j k e)) (g.allowed (DropSub k a) q)));
+        ask = λ t a q h. absurd (formed_asks w j s around.ok around.drawn t a (first_only (list_any (λ p. p.tid == t) (next_pacts w.text s.ring)) (g.touched (Ask t a) q)) (g.allowed (Ask t a) q));
+        take = λ t a q h. absurd (formed_takes w j s around.ok around.drawn t a (first_only (list_any (λ p. p.tid == t) (next_pacts w.text s.ring)) (g.touched (Take t a) q)) (g.allowed (Take t a) q));
+        drop_control = λ t q h.
+            either_way (list_any (λ p. p.tid == t) (next_pacts w.text s.ring)) _ (g.touched (DropControl t) q)
+            (λ x. absurd (formed_drops w j s around.ok around.drawn t x (g.allowed (DropControl t) q)))
+            (λ x. absurd (not_who (Form j) s (control_of t s.post.controls) (λ t. refl) x));
+      }
+
+  -- the control of a transaction that may be what it is asked to be
+  ask_sent : (e : Event) → Asks asked w s e → Around w s e cells → (t a : ℕ) → asked (Ask t a) ≡ true → Contains (on_control t cells (after w e s).book (after w e s).post) (Ask t a)
+  unfolding conditions
+  ask_sent e g around t a q =
+      let c = g.allowed (Ask t a) q in
+      ask_in_control cells (after w e s).book (after w e s).post t a (after w e s).cells around.shown c.0 c.1.0 c.1.1.0
+
+  take_sent : (e : Event) → Asks asked w s e → Around w s e cells → (t a : ℕ) → asked (Take t a) ≡ true → Contains (on_control t cells (after w e s).book (after w e s).post) (Take t a)
+  unfolding conditions
+  take_sent e g around t a q =
+      let c = g.allowed (Take t a) q in
+      take_in_control cells (after w e s).book (after w e s).post t a (after w e s).cells around.shown c.0 c.1.0
+
+  drop_sent : (e : Event) → Asks asked w s e → (t : ℕ) → asked (DropControl t) ≡ true → Contains (on_control t cells (after w e s).book (after w e s).post) (DropControl t)
+  unfolding conditions
+  drop_sent e g t q = drop_in_control cells (after w e s).book (after w e s).post t (g.allowed (DropControl t) q).1.0
+
+  of_one : (e : Event) (u t : ℕ) (f : Event) → (u == t) ≡ true → Contains (on_control t cells (after w e s).book (after w e s).post) f → Contains (on_control u cells (after w e s).book (after w e s).post) f
+  of_one e u t f same c = subst (λ n. Contains (on_control n cells (after w e s).book (after w e s).post) f) (sym (eqb-true u t same)) c
 
   admit_told : (u : ℕ) → Told (Admit u)
-  unfolding after
-  admit_told u later g more drops =
-      let p = (after w (Admit u) s).post in
-      record {
-        arrive = λ k a q h. no (g.touched (Arrive k a) q);
-        drop_sub = λ k a q h. no (g.touched (DropSub k a) q);
-        ask = λ t a q h. more (Ask t a) (of_one u t a p (Ask t a) (left_or (u == t) _ (g.touched (Ask t a) q) (λ x. first_only (u == t) (first_only ((u == t) || false) x))) (in_control p t a (Ask t a) h (inl refl)));
-        take = λ t a q h. more (Take t a) (of_one u t a p (Take t a) (first_only (u == t) (g.touched (Take t a) q)) (in_control p t a (Take t a) h (inr (inl refl))));
-        drop_control = λ t q h.
-            either_way (u == t) _ (g.touched (DropControl t) q)
-            (λ x. more (DropControl t) (of_one u t 0 p (DropControl t) x (drop_in_control p t h)))
-            (λ x. more (DropControl t) (of_one u t 0 p (DropControl t) (admitted_own s u t before.own x) (drop_in_control p t h)));
-      }
+  admit_told u later g around more sent drops = record {
+    arrive = λ k a q h. no (g.touched (Arrive k a) q);
+    drop_sub = λ k a q h. no (g.touched (DropSub k a) q);
+    ask = λ t a q h. sent (Ask t a) (of_one (Admit u) u t (Ask t a) (left_or (u == t) _ (g.touched (Ask t a) q) (λ x. first_only (u == t) (first_only ((u == t) || false) x))) (ask_sent (Admit u) g around t a q));
+    take = λ t a q h. sent (Take t a) (of_one (Admit u) u t (Take t a) (first_only (u == t) (g.touched (Take t a) q)) (take_sent (Admit u) g around t a q));
+    drop_control = λ t q h.
+        either_way (u == t) _ (g.touched (DropControl t) q)
+        (λ x. sent (DropControl t) (of_one (Admit u) u t (DropControl t) x (drop_sent (Admit u) g t q)))
+        (λ x. sent (DropControl t) (of_one (Admit u) u t (DropControl t) (admitted_own s u t before.own x) (drop_sent (Admit u) g t q)));
+  }
 
   arrive_told : (j b : ℕ) → Told (Arrive j b)
   unfolding after
-  arrive_told j b later g more drops =
+  arrive_told j b later g around more sent drops =
       let p = (after w (Arrive j b) s).post in
       record {
-        arrive = λ k a q h. more (Arrive k a) (Contains-append_left (arrivals_to b p) (comings_to b p) (Arrive k a) (arrival_in p k a b h (either_way ((j == k) && (b == a)) (b == a) (g.touched (Arrive k a) q) (λ x. (and_parts (j == k) (b == a) x).1) (λ x. x))));
+        arrive = λ k a q h. more (Arrive k a) (Contains-append_left (arrivals_to b p) (takes_by j b (slice_get cells b) p) (Arrive k a) (arrival_in p k a b h (either_way ((j == k) && (b == a)) (b == a) (g.touched (Arrive k a) q) (λ x. (and_parts (j == k) (b == a) x).1) (λ x. x))));
         drop_sub = λ k a q h. absurd (is_no_none (sub_of k a p.subs) (gone_sub j b k a s.post.subs (g.touched (DropSub k a) q)) h);
         ask = λ t a q h. absurd (g.refused (Ask t a) q (arrive_asks w j b s t a (g.allowed (Ask t a) q)));
-        take = λ t a q h. more (Take t a) (Contains-append_right (arrivals_to b p) (comings_to b p) (Take t a) (coming_in p t a b (Take t a) h (g.touched (Take t a) q) (inr (inl refl))));
+        take = λ t a q h. more (Take t a) (Contains-append_right (arrivals_to b p) (takes_by j b (slice_get cells b) p) (Take t a) (arrive_takes w j b s t a cells around.shown (g.touched (Take t a) q) (g.allowed (Take t a) q) (g.refused (Take t a) q)));
         drop_control = λ t q h. drops (DropControl t) (arrival_dropped asked w s j b t before later g q);
       }
 
   ask_told : (u b : ℕ) → Told (Ask u b)
   unfolding after
-  ask_told u b later g more drops =
+  ask_told u b later g around more sent drops =
       let p = (after w (Ask u b) s).post in
       let gone : (t : ℕ) → (u == t) ≡ true → control_of t p.controls ≡ None = λ t e. gone_control u t s.post.controls e in
       record {
@@ -339,22 +413,20 @@ module _ (asked : Event → Bool) (w : Fixed Rest) (s : Machine Rest) (before : 
       }
 
   send_told : (u b : ℕ) → Told (Send u b)
-  send_told u b later g more drops =
-      let p = (after w (Send u b) s).post in
-      record {
-        arrive = λ k a q h. no (g.touched (Arrive k a) q);
-        drop_sub = λ k a q h. no (g.touched (DropSub k a) q);
-        ask = λ t a q h. more (Ask t a) (of_one u t a p (Ask t a) (first_only (u == t) (g.touched (Ask t a) q)) (in_control p t a (Ask t a) h (inl refl)));
-        take = λ t a q h. more (Take t a) (of_one u t a p (Take t a) (first_only (u == t) (g.touched (Take t a) q)) (in_control p t a (Take t a) h (inr (inl refl))));
-        drop_control = λ t q h.
-            either_way (u == t) _ (g.touched (DropControl t) q)
-            (λ x. more (DropControl t) (of_one u t 0 p (DropControl t) x (drop_in_control p t h)))
-            (λ x. absurd (not_who (Send u b) s (control_of t s.post.controls) (λ t. refl) x));
-      }
+  send_told u b later g around more sent drops = record {
+    arrive = λ k a q h. no (g.touched (Arrive k a) q);
+    drop_sub = λ k a q h. no (g.touched (DropSub k a) q);
+    ask = λ t a q h. sent (Ask t a) (of_one (Send u b) u t (Ask t a) (first_only (u == t) (g.touched (Ask t a) q)) (ask_sent (Send u b) g around t a q));
+    take = λ t a q h. sent (Take t a) (of_one (Send u b) u t (Take t a) (first_only (u == t) (g.touched (Take t a) q)) (take_sent (Send u b) g around t a q));
+    drop_control = λ t q h.
+        either_way (u == t) _ (g.touched (DropControl t) q)
+        (λ x. sent (DropControl t) (of_one (Send u b) u t (DropControl t) x (drop_sent (Send u b) g t q)))
+        (λ x. absurd (not_who (Send u b) s (control_of t s.post.controls) (λ t. refl) x));
+  }
 
   take_told : (u b : ℕ) → Told (Take u b)
   unfolding after
-  take_told u b later g more drops =
+  take_told u b later g around more sent drops =
       let p = (after w (Take u b) s).post in
       let gone : (t : ℕ) → (u == t) ≡ true → control_of t p.controls ≡ None = λ t e. gone_control u t s.post.controls e in
       record {
@@ -370,7 +442,7 @@ module _ (asked : Event → Bool) (w : Fixed Rest) (s : Machine Rest) (before : 
 
   dropped_told : (u : ℕ) → Told (DropControl u)
   unfolding after
-  dropped_told u later g more drops =
+  dropped_told u later g around more sent drops =
       let p = (after w (DropControl u) s).post in
       let gone : (t : ℕ) → (u == t) ≡ true → control_of t p.controls ≡ None = λ t e. gone_control u t s.post.controls e in
       record {
@@ -386,7 +458,7 @@ module _ (asked : Event → Bool) (w : Fixed Rest) (s : Machine Rest) (before : 
 
   left_told : (j b : ℕ) → Told (DropSub j b)
   unfolding after
-  left_told j b later g more drops =
+  left_told j b later g around more sent drops =
       let p = (after w (DropSub j b) s).post in
       record {
         arrive = λ k a q h. absurd (is_no_none (sub_of k a p.subs) (gone_sub j b k a s.post.subs (first_only ((j == k) && (b == a)) (g.touched (Arrive k a) q))) h);
@@ -397,10 +469,10 @@ module _ (asked : Event → Bool) (w : Fixed Rest) (s : Machine Rest) (before : 
       }
 
   abort_told : (j : ℕ) → Told (Abort j)
-  abort_told j later g more drops = all_told (after w (Abort j) s).post more
+  abort_told j later g around more sent drops = all_told (after w (Abort j) s).post more
 
   rollback_told : (b : ℕ) → Told (Rollback b)
-  rollback_told b later g more drops =
+  rollback_told b later g around more sent drops =
       let p = (after w (Rollback b) s).post in
       let rest : (f : Event) → Contains (comings_to b p) f → Contains es f = λ f c. more f (Contains-append_right (arrivals_to b p) (comings_to b p) f c) in
       record {
@@ -412,12 +484,13 @@ module _ (asked : Event → Bool) (w : Fixed Rest) (s : Machine Rest) (before : 
       }
 
   finish_told : (u b : ℕ) → Told (Finish u b)
-  finish_told u b later g more drops = record {
+  finish_told u b later g around more sent drops = let p = (after w (Finish u b) s).post in record {
     arrive = λ k a q h. no (g.touched (Arrive k a) q);
     drop_sub = λ k a q h. no (g.touched (DropSub k a) q);
     ask = λ t a q h. elim (cases_Bool (u == t)) [
       | inl e ↦
-          subst (λ n. Contains es (Ask n a)) (eqb-true u t e) (subst (λ n. Contains es (Ask u n)) (eqb-true b a (first_only (b == a) (g.touched (Ask t a) q))) (more (Ask u b) (first_of_all [] (Ask u b))))
+          let here = eqb-true b a (first_only (b == a) (g.touched (Ask t a) q)) in
+          more (Ask t a) (subst (λ n. Contains (only (goes_to u n p) (Ask u n)) (Ask t a)) (sym here) (subst (λ n. Contains (only (goes_to n a p) (Ask n a)) (Ask t a)) (sym (eqb-true u t e)) (where_so (goes_to t a p) (Ask t a) (goes_where t a p h))))
       | inr e ↦ absurd (g.refused (Ask t a) q (finish_asks w u b s t a e (g.allowed (Ask t a) q)))
     ];
     take = λ t a q h. absurd (g.refused (Take t a) q (finish_takes w u b s t a (g.allowed (Take t a) q)));
@@ -425,7 +498,7 @@ module _ (asked : Event → Bool) (w : Fixed Rest) (s : Machine Rest) (before : 
   }
 
   trim_told : (j b : ℕ) → Told (Trim j b)
-  trim_told j b later g more drops = record {
+  trim_told j b later g around more sent drops = record {
     arrive = λ k a q h. no (g.touched (Arrive k a) q);
     drop_sub = λ k a q h. no (g.touched (DropSub k a) q);
     ask = λ t a q h. absurd (g.refused (Ask t a) q (trim_asks w j b s t a (g.allowed (Ask t a) q)));
@@ -446,30 +519,30 @@ module _ (asked : Event → Bool) (w : Fixed Rest) (s : Machine Rest) (before : 
   }
 
   pub post_told : (e : Event) → Told e
-  post_told (Form j) later g more drops = form_told j later g more drops
-  post_told (Admit u) later g more drops = admit_told u later g more drops
-  post_told (Arrive j b) later g more drops = arrive_told j b later g more drops
-  post_told (Ask u b) later g more drops = ask_told u b later g more drops
-  post_told (Take u b) later g more drops = take_told u b later g more drops
-  post_told (Send u b) later g more drops = send_told u b later g more drops
-  post_told (Abort j) later g more drops = abort_told j later g more drops
-  post_told (Rollback b) later g more drops = rollback_told b later g more drops
-  post_told (DropSub j b) later g more drops = left_told j b later g more drops
-  post_told (DropControl u) later g more drops = dropped_told u later g more drops
-  post_told (Finish u b) later g more drops = finish_told u b later g more drops
-  post_told (Trim j b) later g more drops = trim_told j b later g more drops
-  post_told (Submit n) later g more drops = quiet_told (Submit n) g.touched (λ k a. refl) (λ k a. refl) (λ t a. refl) (λ t a. refl) (λ t x. not_who (Submit n) s (control_of t s.post.controls) (λ u. refl) x)
-  post_told (Pass c) later g more drops = quiet_told (Pass c) g.touched (λ k a. refl) (λ k a. refl) (λ t a. refl) (λ t a. refl) (λ t x. not_who (Pass c) s (control_of t s.post.controls) (λ u. refl) x)
-  post_told (Run u b) later g more drops = quiet_told (Run u b) g.touched (λ k a. refl) (λ k a. refl) (λ t a. refl) (λ t a. refl) (λ t x. not_who (Run u b) s (control_of t s.post.controls) (λ u. refl) x)
-  post_told (End u b) later g more drops = quiet_told (End u b) g.touched (λ k a. refl) (λ k a. refl) (λ t a. refl) (λ t a. refl) (λ t x. not_who (End u b) s (control_of t s.post.controls) (λ u. refl) x)
-  post_told (Close u b) later g more drops = quiet_told (Close u b) g.touched (λ k a. refl) (λ k a. refl) (λ t a. refl) (λ t a. refl) (λ t x. not_who (Close u b) s (control_of t s.post.controls) (λ u. refl) x)
-  post_told (Complete j b) later g more drops = quiet_told (Complete j b) g.touched (λ k a. refl) (λ k a. refl) (λ t a. refl) (λ t a. refl) (λ t x. not_who (Complete j b) s (control_of t s.post.controls) (λ u. refl) x)
-  post_told (Sync l) later g more drops = quiet_told (Sync l) g.touched (λ k a. refl) (λ k a. refl) (λ t a. refl) (λ t a. refl) (λ t x. not_who (Sync l) s (control_of t s.post.controls) (λ u. refl) x)
-  post_told (Note j b) later g more drops = quiet_told (Note j b) g.touched (λ k a. refl) (λ k a. refl) (λ t a. refl) (λ t a. refl) (λ t x. not_who (Note j b) s (control_of t s.post.controls) (λ u. refl) x)
-  post_told (Commit j) later g more drops = quiet_told (Commit j) g.touched (λ k a. refl) (λ k a. refl) (λ t a. refl) (λ t a. refl) (λ t x. not_who (Commit j) s (control_of t s.post.controls) (λ u. refl) x)
-  post_told (Settle j) later g more drops = quiet_told (Settle j) g.touched (λ k a. refl) (λ k a. refl) (λ t a. refl) (λ t a. refl) (λ t x. not_who (Settle j) s (control_of t s.post.controls) (λ u. refl) x)
-  post_told (Prepare u b) later g more drops = quiet_told (Prepare u b) g.touched (λ k a. refl) (λ k a. refl) (λ t a. refl) (λ t a. refl) (λ t x. not_who (Prepare u b) s (control_of t s.post.controls) (λ u. refl) x)
-  post_told (Vouch u b) later g more drops = quiet_told (Vouch u b) g.touched (λ k a. refl) (λ k a. refl) (λ t a. refl) (λ t a. refl) (λ t x. not_who (Vouch u b) s (control_of t s.post.controls) (λ u. refl) x)
-  post_told (Decide u) later g more drops = quiet_told (Decide u) g.touched (λ k a. refl) (λ k a. refl) (λ t a. refl) (λ t a. refl) (λ t x. not_who (Decide u) s (control_of t s.post.controls) (λ u. refl) x)
-  post_told (Seal u) later g more drops = quiet_told (Seal u) g.touched (λ k a. refl) (λ k a. refl) (λ t a. refl) (λ t a. refl) (λ t x. not_who (Seal u) s (control_of t s.post.controls) (λ u. refl) x)
-  post_told (Reply n) later g more drops = quiet_told (Reply n) g.touched (λ k a. refl) (λ k a. refl) (λ t a. refl) (λ t a. refl) (λ t x. not_who (Reply n) s (control_of t s.post.controls) (λ u. refl) x)
+  post_told (Form j) later g around more sent drops = form_told j later g around more sent drops
+  post_told (Admit u) later g around more sent drops = admit_told u later g around more sent drops
+  post_told (Arrive j b) later g around more sent drops = arrive_told j b later g around more sent drops
+  post_told (Ask u b) later g around more sent drops = ask_told u b later g around more sent drops
+  post_told (Take u b) later g around more sent drops = take_told u b later g around more sent drops
+  post_told (Send u b) later g around more sent drops = send_told u b later g around more sent drops
+  post_told (Abort j) later g around more sent drops = abort_told j later g around more sent drops
+  post_told (Rollback b) later g around more sent drops = rollback_told b later g around more sent drops
+  post_told (DropSub j b) later g around more sent drops = left_told j b later g around more sent drops
+  post_told (DropControl u) later g around more sent drops = dropped_told u later g around more sent drops
+  post_told (Finish u b) later g around more sent drops = finish_told u b later g around more sent drops
+  post_told (Trim j b) later g around more sent drops = trim_told j b later g around more sent drops
+  post_told (Submit n) later g around more sent drops = quiet_told (Submit n) g.touched (λ k a. refl) (λ k a. refl) (λ t a. refl) (λ t a. refl) (λ t x. not_who (Submit n) s (control_of t s.post.controls) (λ u. refl) x)
+  post_told (Pass c) later g around more sent drops = quiet_told (Pass c) g.touched (λ k a. refl) (λ k a. refl) (λ t a. refl) (λ t a. refl) (λ t x. not_who (Pass c) s (control_of t s.post.controls) (λ u. refl) x)
+  post_told (Run u b) later g around more sent drops = quiet_told (Run u b) g.touched (λ k a. refl) (λ k a. refl) (λ t a. refl) (λ t a. refl) (λ t x. not_who (Run u b) s (control_of t s.post.controls) (λ u. refl) x)
+  post_told (End u b) later g around more sent drops = quiet_told (End u b) g.touched (λ k a. refl) (λ k a. refl) (λ t a. refl) (λ t a. refl) (λ t x. not_who (End u b) s (control_of t s.post.controls) (λ u. refl) x)
+  post_told (Close u b) later g around more sent drops = quiet_told (Close u b) g.touched (λ k a. refl) (λ k a. refl) (λ t a. refl) (λ t a. refl) (λ t x. not_who (Close u b) s (control_of t s.post.controls) (λ u. refl) x)
+  post_told (Complete j b) later g around more sent drops = quiet_told (Complete j b) g.touched (λ k a. refl) (λ k a. refl) (λ t a. refl) (λ t a. refl) (λ t x. not_who (Complete j b) s (control_of t s.post.controls) (λ u. refl) x)
+  post_told (Sync l) later g around more sent drops = quiet_told (Sync l) g.touched (λ k a. refl) (λ k a. refl) (λ t a. refl) (λ t a. refl) (λ t x. not_who (Sync l) s (control_of t s.post.controls) (λ u. refl) x)
+  post_told (Note j b) later g around more sent drops = quiet_told (Note j b) g.touched (λ k a. refl) (λ k a. refl) (λ t a. refl) (λ t a. refl) (λ t x. not_who (Note j b) s (control_of t s.post.controls) (λ u. refl) x)
+  post_told (Commit j) later g around more sent drops = quiet_told (Commit j) g.touched (λ k a. refl) (λ k a. refl) (λ t a. refl) (λ t a. refl) (λ t x. not_who (Commit j) s (control_of t s.post.controls) (λ u. refl) x)
+  post_told (Settle j) later g around more sent drops = quiet_told (Settle j) g.touched (λ k a. refl) (λ k a. refl) (λ t a. refl) (λ t a. refl) (λ t x. not_who (Settle j) s (control_of t s.post.controls) (λ u. refl) x)
+  post_told (Prepare u b) later g around more sent drops = quiet_told (Prepare u b) g.touched (λ k a. refl) (λ k a. refl) (λ t a. refl) (λ t a. refl) (λ t x. not_who (Prepare u b) s (control_of t s.post.controls) (λ u. refl) x)
+  post_told (Vouch u b) later g around more sent drops = quiet_told (Vouch u b) g.touched (λ k a. refl) (λ k a. refl) (λ t a. refl) (λ t a. refl) (λ t x. not_who (Vouch u b) s (control_of t s.post.controls) (λ u. refl) x)
+  post_told (Decide u) later g around more sent drops = quiet_told (Decide u) g.touched (λ k a. refl) (λ k a. refl) (λ t a. refl) (λ t a. refl) (λ t x. not_who (Decide u) s (control_of t s.post.controls) (λ u. refl) x)
+  post_told (Seal u) later g around more sent drops = quiet_told (Seal u) g.touched (λ k a. refl) (λ k a. refl) (λ t a. refl) (λ t a. refl) (λ t x. not_who (Seal u) s (control_of t s.post.controls) (λ u. refl) x)
+  post_told (Reply n) later g around more sent drops = quiet_told (Reply n) g.touched (λ k a. refl) (λ k a. refl) (λ t a. refl) (λ t a. refl) (λ t x. not_who (Reply n) s (control_of t s.post.controls) (λ u. refl) x)

@@ -1,17 +1,18 @@
 -- Which replies an event may make due: what it changes in a verdict, by the transaction.
 use Rattle.std.specs.Prelude.{◌≡◌, refl, ℕ, suc, ◌+◌, ◌<◌, ◌≤◌, ◌==◌, Bool, true, false, ◌&&◌, ◌||◌, if◌then◌else◌, is_some, Option, Some, None, List, [], ◌∷◌, ◌++◌, length, map, filter, find, Contains}
 use Rattle.std.specs.List.{list_any, AllByRecursion}
-use Rattle.std.proofs.Common.{arith, sym, ap, subst, inl, inr}
+use Rattle.std.proofs.Common.{arith, sym, ap, subst, inl, inr, ◌∙◌}
 use Rattle.std.proofs.lemmas.Bool.{eqb-true, and_parts, or_cases}
 use Rattle.snap_base.specs.declared.transactions.TxResult.{TxResult}
 use Rattle.snap_base.specs.declared.verdicts.Place.{Place}
 use Rattle.snap_base.specs.declared.verdicts.Verdict.{Verdict}
 use Rattle.snap_base.proofs.Booleans.{not_so}
-use Rattle.protocol.specs.Parts.{Act, Cascade, Pact, Stage, Formed, Committing, Settled, Batch}
+use Rattle.protocol.specs.Conditions.{may_leave}
+use Rattle.protocol.specs.Parts.{Act, Cascade, Pact, Status, Live, Doomed, Decided, Sealed, Stage, Formed, Committing, Settled, Batch}
 use Rattle.protocol.specs.Numbers.{from, times}
 use Rattle.protocol.specs.OnDesk as desk
 use Rattle.protocol.specs.OnBook as book
-use Rattle.protocol.specs.Words.{covers, act_of, batch_of, is_settled}
+use Rattle.protocol.specs.Words.{holds, covers, act_of, batch_of, is_doomed, is_sealed, is_settled}
 use Rattle.protocol.specs.Verdicts.{or_else, settled_verdict, pact_place, pact_verdict, act_verdict, verdict_in_batch, verdict_of_pact, verdict_of_act}
 use Rattle.protocol_theorems.proofs.quiet.QuietEnd.{has_ended}
 use Rattle.listing_facts.specs.batch_table.Listed.{txs_at}
@@ -210,3 +211,42 @@ acts_same n t f (x ∷ xs) j none h = by (x.tid == t) none h (acts_same n t f xs
         → is_some (if x.tx == n then act_verdict x.status x.m x.result else verdict_of_act n xs) ≡ true
     by true e g k = other (x.tx == n) e (subst (λ m. is_some (if m == n then act_verdict (f x).status (f x).m (f x).result else verdict_of_act n (book.changed_act t f xs)) ≡ true) (j x) g) k
     by false e g k = same (x.tx == n) e g k
+
+-- ---- an ACT that is changed, and neither given up nor sealed then, has no verdict
+
+no_verdict : (st : Status) (m : ℕ) (r : Option TxResult) → (is_doomed st || is_sealed st) ≡ false → act_verdict st m r ≡ None
+no_verdict Live m r h = refl
+no_verdict (Doomed v) m r h = not_so (sym h)
+no_verdict (Decided c) m r h = refl
+no_verdict (Sealed c) m r h = not_so (sym h)
+
+pub acts_quiet : (n t : ℕ) (f : Act → Act) (acts : List Act) → ((x : Act) → (f x).tid ≡ x.tid) → ((x : Act) → (f x).tx ≡ x.tx) → times t (map (λ x. x.tid) acts) ≤ 1 → may_leave t (book.changed_act t f acts) ≡ false
+    → is_some (verdict_of_act n (book.changed_act t f acts)) ≡ true → is_some (verdict_of_act n acts) ≡ true
+acts_quiet n t f [] i j once quiet h = h
+acts_quiet n t f (x ∷ xs) i j once quiet h = by (x.tid == t) refl once quiet h (acts_quiet n t f xs i j)
+  where
+    unnamed : (v : Bool) → list_any (λ x. (x.tid == t) && (x.tx == n)) xs ≡ v → length (x.tid ∷ filter (λ y. y == t) (map (λ x. x.tid) xs)) ≤ 1 → list_any (λ x. (x.tid == t) && (x.tx == n)) xs ≡ false
+    unnamed true e l = absurd (omega (arith, l, named_times t n xs e))
+    unnamed false e l = e
+
+    changed : (d : Bool) → act_verdict (f x).status (f x).m (f x).result ≡ None → list_any (λ x. (x.tid == t) && (x.tx == n)) xs ≡ false
+        → is_some (if d then act_verdict (f x).status (f x).m (f x).result else verdict_of_act n (book.changed_act t f xs)) ≡ true → is_some (if d then act_verdict x.status x.m x.result else verdict_of_act n xs) ≡ true
+    changed true e u g = not_so (subst (λ v. is_some v ≡ true) e g)
+    changed false e u g = acts_same n t f xs j u g
+
+    same : (d : Bool) → is_some (if d then act_verdict x.status x.m x.result else verdict_of_act n (book.changed_act t f xs)) ≡ true → (is_some (verdict_of_act n (book.changed_act t f xs)) ≡ true → is_some (verdict_of_act n xs) ≡ true)
+        → is_some (if d then act_verdict x.status x.m x.result else verdict_of_act n xs) ≡ true
+    same true g k = g
+    same false g k = k g
+
+    by : (c : Bool) → (x.tid == t) ≡ c → length (if c then x.tid ∷ filter (λ y. y == t) (map (λ x. x.tid) xs) else filter (λ y. y == t) (map (λ x. x.tid) xs)) ≤ 1
+        → holds (λ x. is_doomed x.status || is_sealed x.status) (if (book.change_if c f x).tid == t then Some (book.change_if c f x) else act_of t (book.changed_act t f xs)) ≡ false
+        → is_some (verdict_of_act n (book.change_if c f x ∷ book.changed_act t f xs)) ≡ true
+        → (times t (map (λ x. x.tid) xs) ≤ 1 → may_leave t (book.changed_act t f xs) ≡ false → is_some (verdict_of_act n (book.changed_act t f xs)) ≡ true → is_some (verdict_of_act n xs) ≡ true)
+        → is_some (if x.tx == n then act_verdict x.status x.m x.result else verdict_of_act n xs) ≡ true
+    by true e l q g k =
+        let here : ((f x).tid == t) ≡ true = ap (λ m. m == t) (i x) ∙ e in
+        let its : (is_doomed (f x).status || is_sealed (f x).status) ≡ false = subst (λ c. holds (λ x. is_doomed x.status || is_sealed x.status) (if c then Some (f x) else act_of t (book.changed_act t f xs)) ≡ false) here q in
+        changed (x.tx == n) (no_verdict (f x).status (f x).m (f x).result its) (unnamed (list_any (λ x. (x.tid == t) && (x.tx == n)) xs) refl l)
+        (subst (λ m. is_some (if m == n then act_verdict (f x).status (f x).m (f x).result else verdict_of_act n (book.changed_act t f xs)) ≡ true) (j x) g)
+    by false e l q g k = same (x.tx == n) g (k l (subst (λ c. holds (λ x. is_doomed x.status || is_sealed x.status) (if c then Some x else act_of t (book.changed_act t f xs)) ≡ false) e q))

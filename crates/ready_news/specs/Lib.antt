@@ -1,4 +1,5 @@
 pub mod New
+pub mod Foreseen
 pub mod InDesk
 pub mod InBook
 pub mod GivenUp

@@ -1,12 +1,12 @@
 -- What an event may have made allowed.
-use Rattle.std.specs.Prelude.{◌==◌, Bool, not, ◌&&◌, List, map, Contains}
+use Rattle.std.specs.Prelude.{◌≡◌, ◌==◌, Bool, true, false, not, ◌&&◌, List, map, Contains}
 use Rattle.aml_slice.specs.Controls.{Rest}
 use Rattle.core_events.specs.Meant.{event_meant}
 use Rattle.core_events.specs.declared.events.Event as code
 use Rattle.snap_hand.specs.core_rows.OnRuns.{HasRun}
 use Rattle.protocol.specs.Conditions.{IsAllowed, refusal}
 use Rattle.protocol.specs.Effects.{after}
-use Rattle.protocol.specs.Events.{Event}
+use Rattle.protocol.specs.Events.{Event, Sync}
 use Rattle.protocol.specs.Fixed.{Fixed}
 use Rattle.protocol.specs.Parts.{Machine}
 use Rattle.protocol_ready.specs.Touched.{is_touched}
@@ -25,3 +25,20 @@ pub record IsBehind (w : Fixed Rest) (e : Event) (s : Machine Rest) (h : Parts) 
 -- all that was there still is
 abbrev pub Keeps : List code.Event → List code.Event → Type 0
 Keeps old new = (f : Event) → Contains (map event_meant old) f → Contains (map event_meant new) f
+
+-- ---- ahead of a sync
+
+-- the event is a sync
+abbrev pub is_sync : Event → Bool
+is_sync (Sync l) = true
+is_sync _ = false
+
+-- The event is allowed in this state, to which some run has come, and the hand fits the state.
+pub record IsAheadOf (w : Fixed Rest) (e : Event) (s : Machine Rest) (h : Parts) : Type 0 where
+  pub run : HasRun w s
+  pub allowed : IsAllowed w e s
+  pub fits : Fits h s
+
+-- of a sync: all that it will have made allowed is among these
+abbrev pub IsForeseen : Fixed Rest → Event → Machine Rest → List Event → Type 0
+IsForeseen w e s es = is_sync e ≡ true → (f : Event) → is_new w e s f ≡ true → Contains es f

@@ -14,7 +14,7 @@ ghost use Rattle.protocol_ready.specs.Telling.{AnswersTell};
 ghost use Rattle.snap_hand.specs.Hands.{IsHandOf, IsWhole};
 ghost use Rattle.snap_hand.specs.Tables.{AreTables, fixed_of};
 ghost use Rattle.ready_news.specs.GivenUp.{AreGivenUpBy};
-ghost use Rattle.ready_news.specs.InAnswers.{of_acts_with, of_batches, of_later, of_tx, of_txs, replies_of};
+ghost use Rattle.ready_news.specs.InAnswers.{of_acts_with, of_batches, of_later, of_over, of_tx, of_tx_if, of_txs, replies_of};
 ghost use Rattle.ready_news.specs.New.{IsBehind, Keeps, is_new};
 
 use aml_slice::Control;
@@ -41,6 +41,25 @@ fn list_tx(book: &BookPart, t: Tid, events: &mut Vec<Event>) -> Result<(), Memor
 {
     let tx = book.tx_of(t);
     push_reply(tx, events)?;
+    Ok(())
+}
+
+fn list_tx_if(over: bool, book: &BookPart, t: Tid, events: &mut Vec<Event>) -> Result<(), Memory>
+    ensures { OnOk result ((b : Book) → Shows book.now b → Adds events.old.items events.new.items (of_tx_if over b t.0)) }
+{
+    if !over {
+        return Ok(());
+    }
+    list_tx(book, t, events)?;
+    Ok(())
+}
+
+/// The reply of an ACT's transaction, where the ACT is given up or sealed.
+fn list_over(book: &BookPart, t: Tid, events: &mut Vec<Event>) -> Result<(), Memory>
+    ensures { OnOk result ((b : Book) → Shows book.now b → Adds events.old.items events.new.items (of_over b t.0)) }
+{
+    let over = book.may_leave(t);
+    list_tx_if(over, book, t, events)?;
     Ok(())
 }
 
@@ -88,8 +107,6 @@ fn list_of_batches(
     ensures { OnOk result (Adds events.old.items events.new.items (of_batches next.0 desk.now (event_meant e))) }
 {
     match e {
-        Event::Reply(n) => push_one(events, Event::Reply(n)),
-        Event::Form(k) => list_txs(alloc, desk, k, events),
         Event::Settle(k) => list_txs(alloc, desk, k, events),
         Event::AbortBatch(k) => list_later(alloc, desk, k, next, events),
         _ => Ok(()),
@@ -103,9 +120,9 @@ fn list_asked(
     fallen: &[Tid],
     events: &mut Vec<Event>,
 ) -> Result<(), Memory>
-    ensures { OnOk result ((b : Book) → Shows book.now b → Adds events.old.items events.new.items (of_tx b t.0 ++ flat_map (of_tx b) (map tid_number fallen.now))) }
+    ensures { OnOk result ((b : Book) → Shows book.now b → Adds events.old.items events.new.items (of_over b t.0 ++ flat_map (of_tx b) (map tid_number fallen.now))) }
 {
-    list_tx(book, t, events)?;
+    list_over(book, t, events)?;
     list_each_tx(book, fallen, events)?;
     Ok(())
 }
@@ -119,9 +136,9 @@ fn list_of_acts(
     ensures { OnOk result ((b : Book) → Shows book.now b → Adds events.old.items events.new.items (of_acts_with b (event_meant e) (map tid_number fallen.now))) }
 {
     match e {
-        Event::End(t, _) => list_tx(book, t, events),
-        Event::Decide(t) => list_tx(book, t, events),
-        Event::Seal(t) => list_tx(book, t, events),
+        Event::End(t, _) => list_over(book, t, events),
+        Event::Decide(t) => list_over(book, t, events),
+        Event::Seal(t) => list_over(book, t, events),
         Event::Arrive(_, _) => list_each_tx(book, fallen, events),
         Event::Ask(t, _) => list_asked(book, t, fallen, events),
         Event::AbortBatch(_) => list_each_tx(book, fallen, events),

@@ -1,27 +1,36 @@
 //! What is under way.
-ghost use Rattle.std.specs.Prelude.{◌≡◌, ◌++◌, map, OnOk};
+ghost use Rattle.std.specs.Prelude.{◌≡◌, ◌&&◌, Some, map, slice_get, OnOk};
 ghost use Rattle.std.specs.List.{flat_map};
+ghost use Rattle.std.specs.Option.{option_map};
 ghost use Rattle.aml_slice.specs.Controls.{Rest};
+ghost use Rattle.book_part.specs.Halves.{Shows};
 ghost use Rattle.core_events.specs.Meant.{event_meant};
 ghost use Rattle.ready_listing.specs.Listed.{Adds};
-ghost use Rattle.protocol.specs.Meant.{tid_number};
+ghost use Rattle.protocol.specs.Meant.{actor_number, tid_number};
+ghost use Rattle.listing_facts.specs.hybrid_schedule.Listed.{undone_by};
 ghost use Rattle.listing_facts.specs.post_box.Listed.{control_listed, sub_listed};
+ghost use Rattle.listing_facts.specs.post_box.Posting.{message_to};
 ghost use Rattle.protocol.specs.Effects.{after};
-ghost use Rattle.protocol.specs.Parts.{Machine};
+ghost use Rattle.protocol.specs.Events.{Ask, DropControl, Take};
+ghost use Rattle.protocol.specs.Parts.{Book, Machine};
+ghost use Rattle.protocol.specs.Words.{control_of};
 ghost use Rattle.protocol_ready.specs.Telling.{PostTells};
 ghost use Rattle.snap_hand.specs.Hands.{IsHandOf, IsWhole};
 ghost use Rattle.snap_hand.specs.Tables.{AreTables, fixed_of};
 ghost use Rattle.ready_news.specs.GivenUp.{AreGivenUpBy};
-ghost use Rattle.ready_news.specs.InPost.{all_to, arrivals_to, comings_to, of_arrival, of_coming, of_drop, of_drops_with, of_post, on_control};
+ghost use Rattle.ready_news.specs.InBook.{only};
+ghost use Rattle.ready_news.specs.InPost.{all_to, arrivals_to, arrived_listed, arrives_at, comes_to, comings_to, formed_listed, goes_to, is_dropped, is_new_in, is_placed_in, of_arrival, of_coming, of_drop, of_drops_with, of_post, of_sent, on_control, takes_at, takes_by};
 ghost use Rattle.ready_news.specs.New.{IsBehind, Keeps, is_new};
 
+use crate::in_book::push_if;
 use aml_slice::Control;
+use book_part::BookPart;
 use core_events::Event;
-use listing_facts::Post;
+use listing_facts::{Desk, Post};
 use protocol_laws::allowed_or_refused;
-use ready_listing::{list_messages, push_one, push_three, push_two};
+use ready_listing::{list_messages, push_one, push_two};
 use snap_base::{ActorId, Bid, Memory, Tid};
-use snap_hand::{Hand, Tables, runs_go_on};
+use snap_hand::{CellPart, Hand, Tables, runs_go_on};
 use std::alloc::Global;
 
 fn push_arrivals(subs: &[(Bid, ActorId)], events: &mut Vec<Event>) -> Result<(), Memory>
@@ -84,37 +93,291 @@ fn list_to(
     Ok(())
 }
 
-/// The control of a transaction.
-fn list_control(post: &Post<Control>, t: Tid, events: &mut Vec<Event>) -> Result<(), Memory>
-    ensures { OnOk result (Adds events.old.items events.new.items (on_control t.0 post.now.messages)) }
+/// The sub-batches of a batch, on their way to these actors.
+fn push_formed(k: Bid, actors: &[ActorId], events: &mut Vec<Event>) -> Result<(), Memory>
+    ensures { OnOk result (Adds events.old.items events.new.items (flat_map (arrives_at k.0) (map actor_number actors.now))) }
 {
-    if let Some(a) = post.control_to(t) {
-        push_three(
-            events,
-            Event::Ask(t, a),
-            Event::Take(t, a),
-            Event::DropControl(t),
-        )?;
+    for a in actors {
+        push_one(events, Event::Arrive(k, *a))?;
     }
+    Ok(())
+}
+
+/// The sub-batches of a batch that was just formed.
+fn list_formed(alloc: Global, desk: &Desk, k: Bid, events: &mut Vec<Event>) -> Result<(), Memory>
+    ensures { OnOk result (Adds events.old.items events.new.items (formed_listed k.0 desk.now)) }
+{
+    let actors = desk.actors_of(alloc, k)?;
+    push_formed(k, &actors, events)?;
+    Ok(())
+}
+
+/// Whether the control of a transaction is on its way to an actor.
+fn goes_to(post: &Post<Control>, t: Tid, a: ActorId) -> bool
+    ensures { result ≡ goes_to t.0 a.0 post.now.messages }
+{
+    match post.control_to(t) {
+        Some(b) => b.0 == a.0,
+        None => false,
+    }
+}
+
+fn list_take(
+    post: &Post<Control>,
+    a: ActorId,
+    t: Tid,
+    events: &mut Vec<Event>,
+) -> Result<(), Memory>
+    ensures { OnOk result (Adds events.old.items events.new.items (takes_at a.0 post.now.messages t.0)) }
+{
+    let goes = goes_to(post, t, a);
+    push_if(goes, Event::Take(t, a), events)?;
+    Ok(())
+}
+
+fn push_takes(
+    post: &Post<Control>,
+    a: ActorId,
+    tids: &[Tid],
+    events: &mut Vec<Event>,
+) -> Result<(), Memory>
+    ensures { OnOk result (Adds events.old.items events.new.items (flat_map (takes_at a.0 post.now.messages) (map tid_number tids.now))) }
+{
+    for t in tids {
+        list_take(post, a, *t, events)?;
+    }
+    Ok(())
+}
+
+/// The controls on their way to the actor, of the PACTs of a batch that are not done in this cell.
+fn list_takes(
+    alloc: Global,
+    cell: &CellPart<Control>,
+    post: &Post<Control>,
+    k: Bid,
+    a: ActorId,
+    events: &mut Vec<Event>,
+) -> Result<(), Memory>
+    ensures { OnOk result (Adds events.old.items events.new.items (flat_map (takes_at a.0 post.now.messages) (undone_by k.0 cell.now.cell.entries))) }
+{
+    let tids = cell.undone_by(alloc, k)?;
+    push_takes(post, a, &tids, events)?;
+    Ok(())
+}
+
+/// The controls on their way to the actor that a batch lets in; all, where there is no such actor.
+fn list_let_in(
+    alloc: Global,
+    hand: &Hand,
+    post: &Post<Control>,
+    k: Bid,
+    a: ActorId,
+    events: &mut Vec<Event>,
+) -> Result<(), Memory>
+    requires { IsWhole hand.now }
+    ensures { OnOk result (Adds events.old.items events.new.items (takes_by k.0 a.0 (slice_get hand.now.cells a.0) post.now.messages)) }
+{
+    if !hand.has_actor(a) {
+        return list_comings(alloc, post, a, events);
+    }
+    list_takes(alloc, hand.cell(a), post, k, a, events)
+}
+
+/// What waits on its way to the actor for a batch that has arrived there.
+fn list_arrived(
+    alloc: Global,
+    hand: &Hand,
+    post: &Post<Control>,
+    k: Bid,
+    a: ActorId,
+    events: &mut Vec<Event>,
+) -> Result<(), Memory>
+    requires { IsWhole hand.now }
+    ensures { OnOk result (Adds events.old.items events.new.items (arrived_listed k.0 a.0 hand.now.cells post.now.messages)) }
+{
+    list_arrivals(alloc, post, a, events)?;
+    list_let_in(alloc, hand, post, k, a, events)?;
+    Ok(())
+}
+
+/// The ACT that has left an actor may ask there again.
+fn list_again(
+    post: &Post<Control>,
+    t: Tid,
+    a: ActorId,
+    events: &mut Vec<Event>,
+) -> Result<(), Memory>
+    ensures { OnOk result (Adds events.old.items events.new.items (only (goes_to t.0 a.0 post.now.messages) (Ask t.0 a.0))) }
+{
+    let goes = goes_to(post, t, a);
+    push_if(goes, Event::Ask(t, a), events)?;
     Ok(())
 }
 
 fn list_of_post(
     alloc: Global,
+    hand: &Hand,
+    post: &Post<Control>,
+    desk: &Desk,
+    e: Event,
+    events: &mut Vec<Event>,
+) -> Result<(), Memory>
+    requires { IsWhole hand.now }
+    ensures { OnOk result (Adds events.old.items events.new.items (of_post (event_meant e) hand.now.cells desk.now post.now.messages)) }
+{
+    match e {
+        Event::Form(k) => list_formed(alloc, desk, k, events),
+        Event::Arrive(k, a) => list_arrived(alloc, hand, post, k, a, events),
+        Event::AbortBatch(_) => list_messages(alloc, post, events),
+        Event::Rollback(a) => list_to(alloc, post, a, events),
+        Event::Finish(t, a) => list_again(post, t, a, events),
+        _ => Ok(()),
+    }
+}
+
+/// Whether a transaction has no entry at an actor as an ACT; also where there is no such actor.
+fn is_new_to(hand: &Hand, t: Tid, a: ActorId) -> bool
+    requires { IsWhole hand.now }
+    ensures { result ≡ is_new_in t.0 (slice_get hand.now.cells a.0) }
+{
+    if !hand.has_actor(a) {
+        return true;
+    }
+    !hand.cell(a).has_act(t)
+}
+
+/// Whether a transaction has an entry at an actor; also where there is no such actor.
+fn is_placed_at(hand: &Hand, t: Tid, a: ActorId) -> bool
+    requires { IsWhole hand.now }
+    ensures { result ≡ is_placed_in t.0 (slice_get hand.now.cells a.0) }
+{
+    if !hand.has_actor(a) {
+        return true;
+    }
+    hand.cell(a).has_entry(t)
+}
+
+fn may_ask(hand: &Hand, asks: bool, t: Tid, a: ActorId) -> bool
+    requires { IsWhole hand.now }
+    ensures { result ≡ (asks && is_new_in t.0 (slice_get hand.now.cells a.0)) }
+{
+    asks && is_new_to(hand, t, a)
+}
+
+fn list_ask(
+    hand: &Hand,
+    asks: bool,
+    t: Tid,
+    a: ActorId,
+    events: &mut Vec<Event>,
+) -> Result<(), Memory>
+    requires { IsWhole hand.now }
+    ensures { OnOk result (Adds events.old.items events.new.items (only (asks && is_new_in t.0 (slice_get hand.now.cells a.0)) (Ask t.0 a.0))) }
+{
+    let due = may_ask(hand, asks, t, a);
+    push_if(due, Event::Ask(t, a), events)?;
+    Ok(())
+}
+
+fn list_placed(hand: &Hand, t: Tid, a: ActorId, events: &mut Vec<Event>) -> Result<(), Memory>
+    requires { IsWhole hand.now }
+    ensures { OnOk result (Adds events.old.items events.new.items (only (is_placed_in t.0 (slice_get hand.now.cells a.0)) (Take t.0 a.0))) }
+{
+    let due = is_placed_at(hand, t, a);
+    push_if(due, Event::Take(t, a), events)?;
+    Ok(())
+}
+
+/// A control on its way to the actor, which asks there where this may be, and is taken where its entry stands.
+fn list_coming(
+    hand: &Hand,
+    asks: bool,
+    t: Tid,
+    a: ActorId,
+    events: &mut Vec<Event>,
+) -> Result<(), Memory>
+    requires { IsWhole hand.now }
+    ensures { OnOk result (Adds events.old.items events.new.items (comes_to t.0 hand.now.cells asks (Some a.0))) }
+{
+    list_ask(hand, asks, t, a, events)?;
+    list_placed(hand, t, a, events)?;
+    Ok(())
+}
+
+/// The control of a transaction, where one is on its way.
+fn list_control(
+    hand: &Hand,
+    post: &Post<Control>,
+    asks: bool,
+    t: Tid,
+    events: &mut Vec<Event>,
+) -> Result<(), Memory>
+    requires { IsWhole hand.now }
+    ensures { OnOk result (Adds events.old.items events.new.items (comes_to t.0 hand.now.cells asks (option_map message_to (control_of t.0 post.now.messages.controls)))) }
+{
+    match post.control_to(t) {
+        Some(a) => list_coming(hand, asks, t, a, events),
+        None => Ok(()),
+    }
+}
+
+/// Whether whose the control of a transaction is, is given up.
+fn is_dropped(book: &BookPart, post: &Post<Control>, t: Tid) -> bool
+    ensures { (b : Book) → Shows book.now b → result ≡ is_dropped t.0 b post.now.messages }
+{
+    match post.control_who(t) {
+        Some(who) => book.is_given_up(who),
+        None => false,
+    }
+}
+
+fn list_drop(
+    book: &BookPart,
+    post: &Post<Control>,
+    t: Tid,
+    events: &mut Vec<Event>,
+) -> Result<(), Memory>
+    ensures kept { OnOk result (Keeps events.old.items events.new.items) }
+    ensures told { OnOk result ((b : Book) → Shows book.now b → Adds events.old.items events.new.items (only (is_dropped t.0 b post.now.messages) (DropControl t.0))) }
+{
+    let due = is_dropped(book, post, t);
+    push_if(due, Event::DropControl(t), events)?;
+    Ok(())
+}
+
+/// The control of a transaction, and its drop where whose it is, is given up.
+fn list_on_control(
+    hand: &Hand,
+    book: &BookPart,
+    post: &Post<Control>,
+    t: Tid,
+    events: &mut Vec<Event>,
+) -> Result<(), Memory>
+    requires { IsWhole hand.now }
+    ensures kept { OnOk result (Keeps events.old.items events.new.items) }
+    ensures told { OnOk result ((b : Book) → Shows book.now b → Adds events.old.items events.new.items (on_control t.0 hand.now.cells b post.now.messages)) }
+{
+    let asks = book.is_undoomed(t);
+    list_control(hand, post, asks, t, events)?;
+    list_drop(book, post, t, events)?;
+    Ok(())
+}
+
+/// The control that the event has posted.
+fn list_of_sent(
+    hand: &Hand,
+    book: &BookPart,
     post: &Post<Control>,
     e: Event,
     events: &mut Vec<Event>,
 ) -> Result<(), Memory>
-    ensures { OnOk result (Adds events.old.items events.new.items (of_post (event_meant e) post.now.messages)) }
+    requires { IsWhole hand.now }
+    ensures kept { OnOk result (Keeps events.old.items events.new.items) }
+    ensures told { OnOk result ((b : Book) → Shows book.now b → Adds events.old.items events.new.items (of_sent (event_meant e) hand.now.cells b post.now.messages)) }
 {
     match e {
-        Event::Form(_) => list_messages(alloc, post, events),
-        Event::Admit(t) => list_control(post, t, events),
-        Event::Arrive(_, a) => list_to(alloc, post, a, events),
-        Event::Send(t, _) => list_control(post, t, events),
-        Event::AbortBatch(_) => list_messages(alloc, post, events),
-        Event::Rollback(a) => list_to(alloc, post, a, events),
-        Event::Finish(t, a) => push_one(events, Event::Ask(t, a)),
+        Event::Admit(t) => list_on_control(hand, book, post, t, events),
+        Event::Send(t, _) => list_on_control(hand, book, post, t, events),
         _ => Ok(()),
     }
 }
@@ -158,7 +421,9 @@ pub(crate) fn list_post(
 {
     allowed_or_refused::<Control>();
     runs_go_on::<Control>();
-    list_of_post(alloc, hand.post(), e, events)?;
+    let post = hand.post();
+    list_of_post(alloc, hand, post, hand.desk(), e, events)?;
+    list_of_sent(hand, hand.book(), post, e, events)?;
     list_of_drops(e, fallen, events)?;
     Ok(())
 }

@@ -1,36 +1,25 @@
 //! What the ring has next, and the logs.
-ghost use Rattle.std.specs.Prelude.{◌≡◌, ◌%◌, ◌≤◌, Some, ℕ, map, slice_get, OnOk};
+ghost use Rattle.std.specs.Prelude.{◌≡◌, ◌%◌, ◌+◌, ◌++◌, ◌≤◌, Some, ℕ, map, slice_get, OnOk};
 ghost use Rattle.aml_slice.specs.Controls.{Rest};
 ghost use Rattle.core_events.specs.Meant.{event_meant};
 ghost use Rattle.ready_listing.specs.Listed.{Adds};
 ghost use Rattle.protocol.specs.Effects.{after};
+ghost use Rattle.protocol.specs.Events.{Sync};
 ghost use Rattle.protocol.specs.Parts.{Log, Machine};
 ghost use Rattle.protocol_ready.specs.Telling.{LogTells, RingTells};
 ghost use Rattle.snap_hand.specs.Hands.{IsHandOf, IsWhole};
 ghost use Rattle.snap_hand.specs.Tables.{AreTables, fixed_of, text_of};
-ghost use Rattle.ready_news.specs.InRing.{admits, admits_if, changes_ring, draws, forms, forms_if, frees_acts, frees_batches, log_changed, logs_listed, ring_listed};
+ghost use Rattle.ready_news.specs.InBook.{only};
+ghost use Rattle.ready_news.specs.InRing.{admits, admits_first, admits_if, draws, forms, forms_first, forms_if, frees_acts, frees_batches, is_first, is_lone_in, log_changed, logs_listed, passes, ring_listed, submitted_listed};
 ghost use Rattle.ready_news.specs.New.{IsBehind, Keeps, is_new};
 
+use crate::in_book::push_if;
 use aml_slice::Control;
 use core_events::Event;
-use protocol_laws::{frame, logs_stay};
+use protocol_laws::frame;
 use ready_listing::{list_next, push_one};
-use snap_base::Memory;
-use snap_hand::{Hand, Ring, Tables, runs_go_on};
-
-/// Whether the event changes the ring.
-fn is_of_ring(e: Event) -> bool
-    ensures { result ≡ changes_ring (event_meant e) }
-{
-    match e {
-        Event::Submit(_) => true,
-        Event::Pass(_) => true,
-        Event::Form(_) => true,
-        Event::Admit(_) => true,
-        Event::AbortBatch(_) => true,
-        _ => false,
-    }
-}
+use snap_base::{Memory, TxNo};
+use snap_hand::{Hand, Ring, Tables};
 
 fn list_form(ring: &Ring, events: &mut Vec<Event>) -> Result<(), Memory>
     ensures { OnOk result (Adds events.old.items events.new.items (forms ring.now)) }
@@ -47,6 +36,88 @@ fn list_admit(ring: &Ring, events: &mut Vec<Event>) -> Result<(), Memory>
     if ring.has_act() {
         push_one(events, Event::Admit(ring.next_tid()))?;
     }
+    Ok(())
+}
+
+/// Who has the token after this one.
+fn next_holder(tables: &Tables, holder: u8) -> u8
+    requires { AreTables tables.now }
+    ensures { result ≡ (holder + 1) % (text_of tables.now).coordinators }
+{
+    let coordinators = tables.work.coordinators as u16;
+    ((holder as u16 + 1) % coordinators) as u8
+}
+
+/// The token, where it may go on.
+fn list_pass(tables: &Tables, ring: &Ring, events: &mut Vec<Event>) -> Result<(), Memory>
+    requires { AreTables tables.now }
+    ensures { OnOk result (Adds events.old.items events.new.items (passes (text_of tables.now).coordinators ring.now)) }
+{
+    let next = next_holder(tables, ring.holder());
+    push_if(ring.is_holder_idle(), Event::Pass(next), events)
+}
+
+/// Whether the transaction is the first that waits.
+fn is_first(n: TxNo, first: Option<TxNo>) -> bool
+    ensures { result ≡ is_first n.0 first }
+{
+    match first {
+        None => false,
+        Some(m) => m.0 == n.0,
+    }
+}
+
+/// The next batch, where this PACT is the first of it.
+fn list_first_form(ring: &Ring, n: TxNo, events: &mut Vec<Event>) -> Result<(), Memory>
+    ensures { OnOk result (Adds events.old.items events.new.items (forms_first n.0 ring.now)) }
+{
+    let first = is_first(n, ring.first_pact());
+    push_if(first, Event::Form(ring.next_bid()), events)
+}
+
+/// The next ACT, where it is this one.
+fn list_first_admit(ring: &Ring, n: TxNo, events: &mut Vec<Event>) -> Result<(), Memory>
+    ensures { OnOk result (Adds events.old.items events.new.items (admits_first n.0 ring.now)) }
+{
+    let first = is_first(n, ring.first_act());
+    push_if(first, Event::Admit(ring.next_tid()), events)
+}
+
+/// What may be next after the submission of a transaction.
+fn list_submitted(
+    tables: &Tables,
+    ring: &Ring,
+    n: TxNo,
+    events: &mut Vec<Event>,
+) -> Result<(), Memory>
+    requires { AreTables tables.now }
+    ensures { OnOk result (Adds events.old.items events.new.items (submitted_listed (text_of tables.now).coordinators n.0 ring.now)) }
+{
+    push_one(events, Event::Submit(ring.next_tx()))?;
+    list_pass(tables, ring, events)?;
+    list_first_form(ring, n, events)?;
+    list_first_admit(ring, n, events)?;
+    Ok(())
+}
+
+/// What may be next where the token went on, or a batch was formed.
+fn list_all_next(tables: &Tables, ring: &Ring, events: &mut Vec<Event>) -> Result<(), Memory>
+    requires { AreTables tables.now }
+    ensures { OnOk result (Adds events.old.items events.new.items (passes (text_of tables.now).coordinators ring.now ++ (forms ring.now ++ admits ring.now))) }
+{
+    list_pass(tables, ring, events)?;
+    list_form(ring, events)?;
+    list_admit(ring, events)?;
+    Ok(())
+}
+
+/// What may be next after the admission of an ACT.
+fn list_admitted(tables: &Tables, ring: &Ring, events: &mut Vec<Event>) -> Result<(), Memory>
+    requires { AreTables tables.now }
+    ensures { OnOk result (Adds events.old.items events.new.items (passes (text_of tables.now).coordinators ring.now ++ admits ring.now)) }
+{
+    list_pass(tables, ring, events)?;
+    list_admit(ring, events)?;
     Ok(())
 }
 
@@ -109,10 +180,13 @@ fn list_by_event(
     requires { AreTables tables.now }
     ensures { OnOk result (Adds events.old.items events.new.items (ring_listed (text_of tables.now).coordinators (event_meant e) ring.now)) }
 {
-    if is_of_ring(e) {
-        list_next(tables, ring, events)
-    } else {
-        list_draws(ring, e, events)
+    match e {
+        Event::Submit(n) => list_submitted(tables, ring, n, events),
+        Event::Pass(_) => list_all_next(tables, ring, events),
+        Event::Form(_) => list_all_next(tables, ring, events),
+        Event::Admit(_) => list_admitted(tables, ring, events),
+        Event::AbortBatch(_) => list_next(tables, ring, events),
+        _ => list_draws(ring, e, events),
     }
 }
 
@@ -134,7 +208,7 @@ pub(crate) fn list_ring(
     Ok(())
 }
 
-/// The log that the event changes.
+/// The log to which the event adds records.
 fn log_of(tables: &Tables, e: Event) -> Option<u8>
     requires { AreTables tables.now }
     ensures { result ≡ log_changed (text_of tables.now).logs (event_meant e) }
@@ -143,7 +217,6 @@ fn log_of(tables: &Tables, e: Event) -> Option<u8>
     match e {
         Event::Form(k) => Some(log_at(k.0, logs)),
         Event::Complete(_, a) => Some(log_at(a.0 as u64, logs)),
-        Event::Sync(l) => Some(l),
         Event::Commit(k) => Some(log_at(k.0, logs)),
         Event::Prepare(_, a) => Some(log_at(a.0 as u64, logs)),
         Event::Decide(t) => Some(log_at(t.0, logs)),
@@ -158,35 +231,56 @@ fn log_at(number: u64, logs: u8) -> u8
     (number % logs as u64) as u8
 }
 
-/// The logs that have got a record to sync.
-pub(crate) fn list_logs(
+/// Whether one record alone waits in a log; also where there is no such log.
+fn is_lone(hand: &Hand, l: u8) -> bool
+    requires { IsWhole hand.now }
+    ensures { result ≡ is_lone_in (slice_get hand.now.logs l) }
+{
+    if !hand.has_log(l) {
+        return true;
+    }
+    hand.log(l as usize).waiting() == 1
+}
+
+fn list_sync(hand: &Hand, l: u8, events: &mut Vec<Event>) -> Result<(), Memory>
+    requires { IsWhole hand.now }
+    ensures { OnOk result (Adds events.old.items events.new.items (only (is_lone_in (slice_get hand.now.logs l)) (Sync l))) }
+{
+    let due = is_lone(hand, l);
+    push_if(due, Event::Sync(l), events)?;
+    Ok(())
+}
+
+/// The log to which the event has added a record, where none waited there before.
+fn list_changed(
     tables: &Tables,
-    _hand: &Hand,
+    hand: &Hand,
     e: Event,
     events: &mut Vec<Event>,
 ) -> Result<(), Memory>
     requires tables { AreTables tables.now }
-    requires places { IsHandOf (fixed_of tables.now) _hand.now }
-    requires whole { IsWhole _hand.now }
-    ensures kept { OnOk result (Keeps events.old.items events.new.items) }
-    ensures told { OnOk result ((s : Machine Rest) → IsBehind (fixed_of tables.now) (event_meant e) s _hand.now → (l : ℕ) (g : Log) → slice_get (after (fixed_of tables.now) (event_meant e) s).logs l ≡ Some g → LogTells (is_new (fixed_of tables.now) (event_meant e) s) l g (map event_meant events.new.items)) }
+    requires whole { IsWhole hand.now }
+    ensures { OnOk result (Adds events.old.items events.new.items (logs_listed (text_of tables.now).logs hand.now.logs (event_meant e))) }
 {
-    logs_stay::<Control>();
-    runs_go_on::<Control>();
-    list_changed(tables, e, events)?;
-    Ok(())
+    match log_of(tables, e) {
+        Some(l) => list_sync(hand, l, events),
+        None => Ok(()),
+    }
 }
 
-/// The log that the event changes, and after a cascade all logs.
-fn list_changed(tables: &Tables, e: Event, events: &mut Vec<Event>) -> Result<(), Memory>
-    requires { AreTables tables.now }
-    ensures { OnOk result (Adds events.old.items events.new.items (logs_listed (text_of tables.now).logs (event_meant e))) }
+/// The logs that have got a record to sync.
+pub(crate) fn list_logs(
+    tables: &Tables,
+    hand: &Hand,
+    e: Event,
+    events: &mut Vec<Event>,
+) -> Result<(), Memory>
+    requires tables { AreTables tables.now }
+    requires places { IsHandOf (fixed_of tables.now) hand.now }
+    requires whole { IsWhole hand.now }
+    ensures kept { OnOk result (Keeps events.old.items events.new.items) }
+    ensures told { OnOk result ((s : Machine Rest) → IsBehind (fixed_of tables.now) (event_meant e) s hand.now → (l : ℕ) (g : Log) → slice_get (after (fixed_of tables.now) (event_meant e) s).logs l ≡ Some g → LogTells (is_new (fixed_of tables.now) (event_meant e) s) l g (map event_meant events.new.items)) }
 {
-    if let Event::AbortBatch(_) = e {
-        return ready_listing::list_logs(tables, events);
-    }
-    if let Some(l) = log_of(tables, e) {
-        push_one(events, Event::Sync(l))?;
-    }
+    list_changed(tables, hand, e, events)?;
     Ok(())
 }

@@ -1,9 +1,9 @@
 //! The laws, part by part. Each is about a state of a run, an event that is allowed there, and some events among which those of
 //! the list are: what reads a change, was refused before the event and is allowed after it is among them.
 
-ghost use Rattle.std.specs.Prelude.{◌≡◌, ℕ, Option, Some, List, slice_get, Contains};
+ghost use Rattle.std.specs.Prelude.{◌≡◌, ℕ, false, Option, Some, List, slice_get, Contains};
 ghost use Rattle.aml_slice.specs.Controls.{Rest};
-ghost use Rattle.listing_facts.specs.batch_table.Askings.{awaits_settling, is_next_open};
+ghost use Rattle.listing_facts.specs.batch_table.Askings.{is_next_open};
 ghost use Rattle.listing_facts.specs.batch_table.Listed.{is_number};
 ghost use Rattle.book_part.specs.Halves.{Halves, Shows};
 ghost use Rattle.protocol.specs.Conditions.{epoch};
@@ -20,14 +20,12 @@ ghost use Rattle.ready_news.specs.InCells.{cells_listed};
 ghost use Rattle.ready_news.specs.InDesk.{by_desk};
 ghost use Rattle.ready_news.specs.InPost.{post_listed};
 ghost use Rattle.ready_news.specs.InRing.{logs_listed, ring_listed};
-ghost use Rattle.ready_news.specs.New.{IsBehind, is_new};
+ghost use Rattle.ready_news.specs.New.{IsBehind, is_new, is_sync};
 
 use aml_slice::Control;
 use book_part::unbegun_acts_wait_for_nothing;
 use listing_facts::{parts_list_all, run_parts_list_all};
-use protocol_laws::{
-    allowed_or_refused, frame, logs_stay, numbers_are_drawn_once, numbers_are_in_range,
-};
+use protocol_laws::{allowed_or_refused, frame, numbers_are_drawn_once, numbers_are_in_range};
 use protocol_theorems::sizes_hold;
 use snap_hand::runs_go_on;
 
@@ -40,15 +38,12 @@ pub fn ring_is_told()
 
 /// A list in which the Syncs listed by the event stand tells all that is new of the logs: which have got a record to sync.
 pub fn logs_are_told()
-    ensures { (w : Fixed Rest) (e : Event) (s : Machine Rest) (h : Parts) (es : List Event) → IsBehind w e s h → ((f : Event) → Contains (logs_listed w.text.logs e) f → Contains es f) → (l : ℕ) (g : Log) → slice_get (after w e s).logs l ≡ Some g → LogTells (is_new w e s) l g es }
-{
-    logs_stay::<Control>();
-    runs_go_on::<Control>();
-}
+    ensures { (w : Fixed Rest) (e : Event) (s : Machine Rest) (h : Parts) (es : List Event) → IsBehind w e s h → ((f : Event) → Contains (logs_listed w.text.logs h.logs e) f → Contains es f) → (l : ℕ) (g : Log) → slice_get (after w e s).logs l ≡ Some g → LogTells (is_new w e s) l g es }
+{}
 
 /// A list in which the events listed by the post stand tells all that is new of what is under way.
 pub fn post_is_told()
-    ensures { (w : Fixed Rest) (e : Event) (s : Machine Rest) (h : Parts) (es : List Event) → IsBehind w e s h → ((f : Event) → Contains (post_listed e (after w e s).book (after w e s).post) f → Contains es f) → PostTells (is_new w e s) (after w e s).post es }
+    ensures { (w : Fixed Rest) (e : Event) (s : Machine Rest) (h : Parts) (es : List Event) → IsBehind w e s h → ((f : Event) → Contains (post_listed e h.cells (after w e s).book (after w e s).desk (after w e s).post) f → Contains es f) → PostTells (is_new w e s) (after w e s).post es }
 {
     allowed_or_refused::<Control>();
     runs_go_on::<Control>();
@@ -66,18 +61,19 @@ pub fn cells_are_told()
     parts_list_all::<Control>();
 }
 
-/// A list in which the events listed by the desk stand tells all that is new of what batches wait for, by which batch is the next
-/// to commit, and which one commits.
+/// A list in which the events listed by the desk stand tells all that is new of what batches wait for after an event that is no
+/// Sync, by which batch is the next to commit.
 pub fn desk_is_told()
-    ensures { (w : Fixed Rest) (e : Event) (s : Machine Rest) (next settling : Option Bid) (es : List Event) → ((k : ℕ) → is_next_open k (after w e s).desk.batches ≡ is_number k next) → ((k : ℕ) → awaits_settling k (after w e s).desk.batches ≡ is_number k settling) → ((f : Event) → Contains (by_desk w.text.logs next settling (after w e s).desk e) f → Contains es f) → DeskTells (is_new w e s) (after w e s).desk es }
+    ensures { (w : Fixed Rest) (e : Event) (s : Machine Rest) (h : Parts) (next : Option Bid) (es : List Event) → IsBehind w e s h → is_sync e ≡ false → ((k : ℕ) → is_next_open k (after w e s).desk.batches ≡ is_number k next) → ((f : Event) → Contains (by_desk next (after w e s).desk e) f → Contains es f) → DeskTells (is_new w e s) (after w e s).desk es }
 {
+    allowed_or_refused::<Control>();
     parts_list_all::<Control>();
 }
 
 /// A list in which the events listed by the book stand tells all that is new of what ACTs wait for, where some halves show the
-/// book.
+/// book, and the event is no sync.
 pub fn book_is_told()
-    ensures { (w : Fixed Rest) (e : Event) (s : Machine Rest) (h : Parts) (x : Halves) (es : List Event) → IsBehind w e s h → Shows x (after w e s).book → ((f : Event) → Contains (by_book w.text.logs (after w e s).book e) f → Contains es f) → BookTells (is_new w e s) (after w e s).book es }
+    ensures { (w : Fixed Rest) (e : Event) (s : Machine Rest) (h : Parts) (x : Halves) (es : List Event) → is_sync e ≡ false → IsBehind w e s h → Shows x (after w e s).book → ((f : Event) → Contains (by_book (after w e s).book e) f → Contains es f) → BookTells (is_new w e s) (after w e s).book es }
 {
     allowed_or_refused::<Control>();
     runs_go_on::<Control>();

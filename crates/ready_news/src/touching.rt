@@ -1,5 +1,5 @@
 //! All that an event may have made allowed, part by part.
-ghost use Rattle.std.specs.Prelude.{map, OnOk};
+ghost use Rattle.std.specs.Prelude.{◌≡◌, map, OnOk};
 ghost use Rattle.aml_slice.specs.Controls.{Rest};
 ghost use Rattle.core_events.specs.Meant.{event_meant};
 ghost use Rattle.protocol.specs.Effects.{after};
@@ -7,7 +7,7 @@ ghost use Rattle.protocol.specs.Parts.{Machine};
 ghost use Rattle.protocol_ready.specs.Telling.{PartsTell};
 ghost use Rattle.snap_hand.specs.Hands.{IsHandOf, IsWhole};
 ghost use Rattle.snap_hand.specs.Tables.{AreTables, fixed_of};
-ghost use Rattle.ready_news.specs.New.{IsBehind, is_new};
+ghost use Rattle.ready_news.specs.New.{IsBehind, IsForeseen, is_new, is_sync};
 
 use crate::given_up::given_up_by;
 use crate::in_answers::list_answers;
@@ -21,9 +21,16 @@ use snap_base::Memory;
 use snap_hand::{Hand, Tables};
 use std::alloc::Global;
 
-/// Puts events in place of what was in the list, among which each is that the event, which was just taken, has made allowed. All
-/// parts are at hand, as they are after it. There may be others, which were allowed before or are not, and one may be there twice:
-/// who puts them to the allowed ones looks at each. For want of memory nothing is said of the list.
+fn is_sync(e: Event) -> bool
+    ensures { result ≡ is_sync (event_meant e) }
+{
+    matches!(e, Event::Sync(_))
+}
+
+/// Puts events in place of what was in the list, among which each is that the event, which was just taken, has made allowed; of a
+/// Sync all that it has made allowed must be in the list, as `foreseen` put it in ahead of it, and stays there. All parts are at
+/// hand, as they are after the event. There may be others, which were allowed before or are not, and one may be there twice: who
+/// puts them to the allowed ones looks at each. For want of memory nothing is said of the list.
 pub fn touched(
     alloc: Global,
     tables: &Tables,
@@ -34,8 +41,11 @@ pub fn touched(
     requires tables { AreTables tables.now }
     requires places { IsHandOf (fixed_of tables.now) hand.now }
     requires whole { IsWhole hand.now }
-    ensures { OnOk result ((s : Machine Rest) → IsBehind (fixed_of tables.now) (event_meant e) s hand.now → PartsTell (is_new (fixed_of tables.now) (event_meant e) s) (fixed_of tables.now) (after (fixed_of tables.now) (event_meant e) s) (map event_meant events.new.items)) }
+    ensures { OnOk result ((s : Machine Rest) → IsBehind (fixed_of tables.now) (event_meant e) s hand.now → IsForeseen (fixed_of tables.now) (event_meant e) s (map event_meant events.old.items) → PartsTell (is_new (fixed_of tables.now) (event_meant e) s) (fixed_of tables.now) (after (fixed_of tables.now) (event_meant e) s) (map event_meant events.new.items)) }
 {
+    if is_sync(e) {
+        return Ok(());
+    }
     // One list serves event after event, and keeps its room.
     events.clear();
     list_ring(tables, hand, e, events)?;
@@ -44,7 +54,7 @@ pub fn touched(
     list_cells(alloc, tables, hand, e, events)?;
     list_logs(tables, hand, e, events)?;
     list_desk(alloc, tables, hand, e, events)?;
-    list_book(alloc, tables, hand, e, &fallen, events)?;
+    list_book(alloc, hand, e, &fallen, events)?;
     list_answers(alloc, tables, hand, e, &fallen, events)?;
     Ok(())
 }

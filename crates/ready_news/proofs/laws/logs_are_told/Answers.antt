@@ -1,6 +1,5 @@
-use Rattle.ready_news.proofs.Behind.{run_after}
 use Rattle.ready_news.proofs.InRing.{logs_told}
 use Rattle.ready_news.proofs.laws.logs_are_told.Goals as goal
 
 pub returns : goal.returns
-returns c w e s h es behind more = logs_told w e s es c.logs_stay.ensures (run_after c.runs_go_on.ensures w e s h behind) more
+returns c w e s h es behind more = logs_told w e s es h.logs behind.fits.logs more
