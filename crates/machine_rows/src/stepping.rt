@@ -89,6 +89,7 @@ impl Machine {
     fn answer(&mut self, alloc: Global, event: Event) -> Result<Option<u8>, Memory> {
         let listed = is_listed(&self.ready, event);
         let few = self.few.answer(alloc, event, &self.ready)?;
+        self.core.foresee(event, &mut self.news)?;
         let rule = answer_of(alloc, &mut self.core, event)?;
         if few != rule || listed != (rule == Some(0)) {
             return Ok(None);

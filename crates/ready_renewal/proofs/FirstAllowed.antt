@@ -1,76 +1,22 @@
--- The first of the allowed events, by a list that leaves none of them out.
-use Rattle.std.proofs.Common.{◌≡◌, ◌↔◌, ◌<◌, ◌≤◌, ◌==◌, Bool, true, false, ◌||◌, if◌then◌else◌, None, Some, Contains, ◌⊎◌, List, [], ◌∷◌, length, filter, slice_get, refl, sym, ap, subst, inl, inr, ◌∙◌, arith}
+-- The front of a list that leaves no allowed event out.
+use Rattle.std.proofs.Common.{◌≡◌, ◌↔◌, ◌==◌, Bool, true, if◌then◌else◌, Option, None, Some, Contains, List, [], ◌∷◌, filter, slice_get, refl, sym, ap, subst, ◌∙◌}
+use Rattle.std.specs.Option.{option_map}
+use Rattle.std.specs.Prelude.{IfSome}
 use Rattle.std.proofs.lemmas.Bool.{eqb-true, eq-eqb}
 use Rattle.aml_slice.specs.Controls.{Rest}
+use Rattle.core_events.specs.Meant.{event_meant}
+use Rattle.core_events.specs.declared.events.Event as code
 use Rattle.protocol.specs.Conditions.{IsAllowed, refusal}
 use Rattle.protocol.specs.Events.{Event}
 use Rattle.protocol.specs.Fixed.{Fixed}
 use Rattle.protocol.specs.Parts.{Machine}
-use Rattle.protocol.specs.Schedule.{AscendByRank, Rank, is_rank_below, rank}
+use Rattle.protocol.specs.Runs.{IsQuiet}
 use Rattle.protocol_laws.proofs.first.Ordered.{filtered}
-use Rattle.protocol_ready.specs.Ready.{without}
 use Rattle.protocol_ready.proofs.Listing.{from_filter, from_has, has_filter, to_has}
-use Rattle.ready_renewal.specs.Asked.{IsAllowedOn, IsRefusedOn}
-use Rattle.ready_renewal.specs.Covering.{Covers, CoversStill, IsFirstOf, Sheds}
-use Rattle.snap_hand.specs.Hands.{Parts}
+use Rattle.ready_renewal.specs.Covering.{Covers, IsFirst}
+use Rattle.ready_renewal.proofs.KeptEvents.{none_in}
 
--- ---- lists
-
-no_longer : {X : Type 0} (p : X → Bool) (xs : List X) → length (filter p xs) ≤ length xs
-no_longer p [] = omega arith
-no_longer p (x ∷ xs) = by (p x) (no_longer p xs)
-  where
-    by : (b : Bool) → length (filter p xs) ≤ length xs → length (if b then x ∷ filter p xs else filter p xs) ≤ length (x ∷ xs)
-    by true h = omega (arith, h)
-    by false h = omega (arith, h)
-
--- without its first one a list is shorter
-shorter_by : ((x : Rank) → is_rank_below x x ≡ false) → (e : Event) (es : List Event) → slice_get es 0 ≡ Some e → length (without e es) < length es
-shorter_by apart e [] h = absurd (cc h)
-shorter_by apart e (x ∷ es) h =
-    let q : x ≡ e = cc h in
-    let out : (is_rank_below (rank x) (rank e) || is_rank_below (rank e) (rank x)) ≡ false = rw (q, apart (rank e)) refl in
-    let rest : length (filter (λ y. is_rank_below (rank y) (rank e) || is_rank_below (rank e) (rank y)) es) < length (x ∷ es) = omega (arith, no_longer (λ y. is_rank_below (rank y) (rank e) || is_rank_below (rank e) (rank y)) es) in
-    subst (λ b. length (if b then x ∷ filter (λ y. is_rank_below (rank y) (rank e) || is_rank_below (rank e) (rank y)) es else filter (λ y. is_rank_below (rank y) (rank e) || is_rank_below (rank e) (rank y)) es) < length (x ∷ es)) (sym out) rest
-
-pub shorter : ((x : Rank) → is_rank_below x x ≡ false) → (e : Event) (es new : List Event) → slice_get es 0 ≡ Some e → new ≡ without e es → length new < length es
-shorter apart e es new first taken = subst (λ xs. length xs < length es) (sym taken) (shorter_by apart e es first)
-
--- ---- what is passed over
-
-pub covers_same : (w : Fixed Rest) (h : Parts) (es : List Event) → CoversStill w h es es
-covers_same w h es s run fits c = c
-
-pub covers_without : (w : Fixed Rest) (h : Parts) (e : Event) (old list new : List Event)
-    → ((e : Event) (es : List Event) (f : Event) → Contains es f → Contains (without e es) f ⊎ (f ≡ e))
-    → ((e : Event) (es : List Event) → AscendByRank es → AscendByRank (without e es))
-    → IsRefusedOn w h e → new ≡ without e list → CoversStill w h old list → CoversStill w h old new
-covers_without w h e old list new kept order refused taken still s run fits c = subst (Covers w s) (sym taken) (record {
-  all = λ f now. elim (kept e list f ((still s run fits c).all f now)) [
-    | inl a ↦ a
-    | inr q ↦ absurd (refused s run fits (subst (λ g. IsAllowed w g s) q now))
-  ];
-  ascends = order e list (still s run fits c).ascends;
-})
-
-pub sheds_none : (w : Fixed Rest) (h : Parts) (es : List Event) → Sheds w h es es
-sheds_none w h es = record { only = λ f c. c; kept = λ f c. inl c }
-
-pub sheds_one : (w : Fixed Rest) (h : Parts) (e : Event) (old list new : List Event)
-    → ((e : Event) (es : List Event) (f : Event) → Contains (without e es) f → Contains es f × (f ≡ e → ⊥))
-    → ((e : Event) (es : List Event) (f : Event) → Contains es f → Contains (without e es) f ⊎ (f ≡ e))
-    → IsRefusedOn w h e → new ≡ without e list → Sheds w h old list → Sheds w h old new
-sheds_one w h e old list new others kept refused taken so_far = subst (Sheds w h old) (sym taken) (record {
-  only = λ f c. so_far.only f (others e list f c).0;
-  kept = λ f c. elim (so_far.kept f c) [
-    | inl a ↦ elim (kept e list f a) [ inl b ↦ inl b | inr q ↦ inr (subst (IsRefusedOn w h) (sym q) refused) ]
-    | inr gone ↦ inr gone
-  ];
-})
-
--- ---- what is found
-
-pub nothing_left : (es : List Event) → slice_get es 0 ≡ None → es ≡ []
+nothing_left : (es : List Event) → slice_get es 0 ≡ None → es ≡ []
 nothing_left [] h = refl
 nothing_left (x ∷ es) h = absurd (cc h)
 
@@ -81,19 +27,30 @@ first_kept p (x ∷ es) e h q =
     let in_it : p x ≡ true = ap p same ∙ q in
     subst (λ b. slice_get (if b then x ∷ filter p es else filter p es) 0 ≡ Some e) (sym in_it) (ap Some same)
 
-pub first_of : (w : Fixed Rest) (h : Parts) (e : Event) (old es : List Event) → ((w : Fixed Rest) (e : Event) (s : Machine Rest) → (refusal w e s ≡ 0) ↔ IsAllowed w e s)
-    → slice_get es 0 ≡ Some e → IsAllowedOn w h e → CoversStill w h old es → IsFirstOf w h old e
-first_of w h e old es ruled is allowed still s run fits c = record {
+-- the front of a list that leaves no allowed event out, where it is allowed itself
+first_if_allowed : (w : Fixed Rest) (e : Event) (es : List Event) → ((w : Fixed Rest) (e : Event) (s : Machine Rest) → (refusal w e s ≡ 0) ↔ IsAllowed w e s)
+    → slice_get es 0 ≡ Some e → (s : Machine Rest) → Covers w s es → IsAllowed w e s → IsFirst w s e
+first_if_allowed w e es ruled is s c allowed = record {
   all = filter test es;
   enabled = record {
     all = λ f. (
       (λ there. (ruled w f s).0 (eqb-true (refusal w f s) 0 (from_filter test es f (to_has (filter test es) f there)).1)),
-      (λ now. from_has (filter test es) f (has_filter test es f (to_has es f ((still s run fits c).all f now)) (eq-eqb (refusal w f s) 0 ((ruled w f s).1 now)))),
+      (λ now. from_has (filter test es) f (has_filter test es f (to_has es f (c.all f now)) (eq-eqb (refusal w f s) 0 ((ruled w f s).1 now)))),
     );
-    ascends = filtered test es (still s run fits c).ascends;
+    ascends = filtered test es c.ascends;
   };
-  first = first_kept test es e is (eq-eqb (refusal w e s) 0 ((ruled w e s).1 (allowed s run fits)));
+  first = first_kept test es e is (eq-eqb (refusal w e s) 0 ((ruled w e s).1 allowed));
 }
   where
     test : Event → Bool
     test f = refusal w f s == 0
+
+-- of what a list hands out with no event asked
+pub front_first : (o : Option code.Event) (es : List Event) → ((w : Fixed Rest) (e : Event) (s : Machine Rest) → (refusal w e s ≡ 0) ↔ IsAllowed w e s) → option_map event_meant o ≡ slice_get es 0
+    → IfSome o (λ e. (w : Fixed Rest) (s : Machine Rest) → Covers w s es → IsAllowed w (event_meant e) s → IsFirst w s (event_meant e))
+front_first None es ruled is = tt
+front_first (Some e) es ruled is = λ w s c allowed. first_if_allowed w (event_meant e) es ruled (sym is) s c allowed
+
+pub no_front : (o : Option code.Event) (es : List Event) → option_map event_meant o ≡ slice_get es 0 → o ≡ None → (w : Fixed Rest) (s : Machine Rest) → Covers w s es → IsQuiet w s
+no_front None es is none w s c f ok = none_in f (subst (λ xs. Contains xs f) (nothing_left es (sym is)) (c.all f ok))
+no_front (Some e) es is none w s c f ok = absurd (cc none)

@@ -1,7 +1,7 @@
 -- What is asked again, taken out and put in makes the allowed events after an event.
-use Rattle.std.proofs.Common.{◌≡◌, ℕ, zero, suc, ◌+◌, ◌<◌, ◌≤◌, get_or, slice_index_or, nat_lt, ◌==◌, Bool, true, false, ◌&&◌, ◌||◌, is_some, Option, Some, None, Contains, ◌↔◌, ◌⊎◌, List, [], ◌∷◌, ◌++◌, length, map, take, refl, sym, ap, subst, inl, inr, ◌∙◌, arith}
-use Rattle.std.proofs.lemmas.Bool.{cases_lt, true≢false, eqb-true, eq-eqb, ltb-true, or_parts}
-use Rattle.std.proofs.lemmas.List.{map_more, take_all}
+use Rattle.std.proofs.Common.{◌≡◌, ℕ, zero, suc, ◌+◌, ◌<◌, ◌≤◌, get_or, slice_index_or, ◌==◌, Bool, true, false, Contains, ◌↔◌, ◌⊎◌, List, [], ◌∷◌, ◌++◌, length, map, take, refl, sym, ap, subst, inl, inr, ◌∙◌, arith}
+use Rattle.std.proofs.lemmas.Bool.{cases_lt, eqb-true, eq-eqb}
+use Rattle.std.proofs.lemmas.List.{map-append, map_more, take_all}
 use Rattle.std.proofs.lemmas.List.Elements.{Contains-append_cases, Contains-append_left, Contains-append_right}
 use Rattle.aml_slice.specs.Controls.{Rest}
 use Rattle.core_events.specs.Meant.{event_meant}
@@ -9,19 +9,20 @@ use Rattle.core_events.specs.declared.events.Event as code
 use Rattle.snap_hand.specs.core_rows.OnRuns.{HasRun}
 use Rattle.protocol.specs.Conditions.{IsAllowed, refusal}
 use Rattle.protocol.specs.Effects.{after}
-use Rattle.protocol.specs.Events.{Event, Submit, Reply, Trim}
+use Rattle.protocol.specs.Events.{Event, Submit}
 use Rattle.protocol.specs.Fixed.{Fixed}
 use Rattle.protocol.specs.Laws.{OfEveryRun}
 use Rattle.protocol.specs.Parts.{Machine}
 use Rattle.protocol.specs.Schedule.{AscendByRank, IsEnabled}
 use Rattle.protocol_ready.specs.Ready.{put, without}
-use Rattle.protocol_ready.specs.Refusing.{IsRenewed, RenewedAreEnabled, bid_of_event, is_at, is_in_reach, may_refuse}
+use Rattle.protocol_ready.specs.Refusing.{IsRenewed, RenewedAreEnabled, may_refuse}
+use Rattle.protocol_ready.proofs.Listing.{from_filter, from_has, has_filter, to_has}
 use Rattle.protocol_ready.specs.Telling.{PartsTell}
-use Rattle.protocol_ready.specs.Touched.{is_abort, is_touched}
-use Rattle.ready_list.specs.Order.{IsGap, at, is_before}
-use Rattle.ready_renewal.specs.Asked.{AreAsked, AreRefused, IsAllowedOn, IsAsked, IsPutIn, IsOwn, IsRefusedOn, IsWith, IsWithout}
+use Rattle.protocol_ready.specs.Touched.{is_touched}
+use Rattle.ready_list.specs.Order.{kind_of}
+use Rattle.ready_renewal.specs.Asked.{AreAsked, AreRefused, IsAllowedOn, IsAsked, IsPutIn, IsOwn, IsRefusedOn, IsWith, IsWithout, of_kind}
 use Rattle.snap_hand.specs.Hands.{Parts}
-use Rattle.ready_news.specs.New.{IsBehind, is_new}
+use Rattle.ready_news.specs.New.{IsBehind, IsForeseen, is_new}
 
 -- ---- lists
 
@@ -138,102 +139,81 @@ now_gone w h e f gone new same refused = subst (λ v. IsAsked w h e (event_meant
     mapped [] = refl
     mapped (x ∷ xs) = rw (mapped xs) refl
 
--- what is read at a place
-pub read_meant : (xs : List code.Event) (i : ℕ) (f : code.Event) → i < length xs → f ≡ slice_index_or xs i f → event_meant f ≡ at (map event_meant xs) i
-read_meant [] i f h e = absurd (omega (arith, h))
-read_meant (x ∷ xs) zero f h e = ap event_meant e
-read_meant (x ∷ xs) (suc i) f h e = read_meant xs i f (omega (arith, h)) e
+-- what was asked for again goes on as it was while more is
+raised : (w : Fixed Rest) (h : Parts) (e f : Event) (gone new : List Event) → (Contains gone f → Contains new f)
+    → (Contains gone f ⊎ IsAllowedOn w h f) ⊎ (may_refuse e f ≡ false) → (Contains new f ⊎ IsAllowedOn w h f) ⊎ (may_refuse e f ≡ false)
+raised w h e f gone new kept (inl (inl c)) = inl (inl (kept c))
+raised w h e f gone new kept (inl (inr allowed)) = inl (inr allowed)
+raised w h e f gone new kept (inr no_way) = inr no_way
 
-pub none_asked : (w : Fixed Rest) (h : Parts) (e : Event) (es : List Event) (first : ℕ) (gone : List Event) → AreAsked w h e es first first gone gone
-none_asked w h e es first gone = record { out = λ g c. inl c; kept = λ g c. c; asked = λ j past ahead. absurd (omega (arith, past, ahead)) }
+pub none_asked : (w : Fixed Rest) (h : Parts) (e : Event) (gone : List Event) → AreAsked w h e [] gone gone
+none_asked w h e gone = record { out = λ g c. inl c; kept = λ g c. c; asked = λ f c. absurd (none_in f c) }
 
-pub one_asked : (w : Fixed Rest) (h : Parts) (e : Event) (es : List Event) (first i : ℕ) (old gone new : List Event)
-    → AreAsked w h e es first i old gone → IsAsked w h e (at es i) gone new → AreAsked w h e es first (i + 1) old new
-one_asked w h e es first i old gone new so_far asked = record {
-  out = λ g c. elim (asked.out g c) [ inl a ↦ so_far.out g a | inr r ↦ inr r ];
-  kept = λ g c. asked.kept g (so_far.kept g c);
-  asked = λ j past ahead. elim (cases_lt j i) [
-    | inl a ↦ elim (so_far.asked j past a) [ inl b ↦ elim b [ inl c ↦ inl (inl (asked.kept (at es j) c)) | inr d ↦ inl (inr d) ] | inr n ↦ inr n ]
-    | inr b ↦
-        let q : i ≡ j = omega (arith, ahead, b) in
-        subst (λ k. (Contains new (at es k) ⊎ IsAllowedOn w h (at es k)) ⊎ (may_refuse e (at es k) ≡ false)) q asked.asked
+pub one_asked : (w : Fixed Rest) (h : Parts) (e : Event) (xs : List code.Event) (i : ℕ) (x : code.Event) (old gone new : List Event) → i < length xs → x ≡ get_or xs i x
+    → AreAsked w h e (map event_meant (take i xs)) old gone → IsAsked w h e (event_meant x) gone new → AreAsked w h e (map event_meant (take (i + 1) xs)) old new
+one_asked w h e xs i x old gone new within is so_far one = record {
+  out = λ g c. elim (one.out g c) [ inl a ↦ so_far.out g a | inr r ↦ inr r ];
+  kept = λ g c. one.kept g (so_far.kept g c);
+  asked = λ f c. elim (more_cases xs i x f within is c) [
+    | inl a ↦ raised w h e f gone new (one.kept f) (so_far.asked f a)
+    | inr q ↦ subst (λ g. (Contains new g ⊎ IsAllowedOn w h g) ⊎ (may_refuse e g ≡ false)) (sym q) one.asked
   ];
 }
 
-pub all_asked : (w : Fixed Rest) (h : Parts) (e : Event) (es : List Event) (first end i : ℕ) (old new : List Event) → end ≤ i → AreAsked w h e es first i old new → AreAsked w h e es first end old new
-all_asked w h e es first end i old new past so_far = record { out = so_far.out; kept = so_far.kept; asked = λ j late ahead. so_far.asked j late (omega (arith, ahead, past)) }
+pub all_asked : (w : Fixed Rest) (h : Parts) (e : Event) (xs : List code.Event) (i : ℕ) (old new : List Event) → length xs ≤ i → AreAsked w h e (map event_meant (take i xs)) old new → AreAsked w h e (map event_meant xs) old new
+all_asked w h e xs i old new past so_far = subst (λ v. AreAsked w h e (map event_meant v) old new) (take_all i xs past) so_far
 
-read_at : (es : List Event) (j : ℕ) (f d : Event) → j < length es → slice_index_or es j f ≡ f → slice_index_or es j d ≡ f
-read_at [] j f d a e = absurd (omega (arith, a))
-read_at (x ∷ es) zero f d a e = e
-read_at (x ∷ es) (suc j) f d a e = read_at es j f d (omega (arith, a)) e
+-- ---- kind by kind
 
--- those ahead of the replies were asked for, and those behind them that may be refused
-front_and_back : (w : Fixed Rest) (h : Parts) (e : Event) (es : List Event) (front back : ℕ) (own middle gone : List Event)
-    → IsGap es (Reply 0) front → ((j : ℕ) → j < back → j < length es → is_before (at es j) (Reply 0) ≡ false → may_refuse e (at es j) ≡ false)
-    → IsOwn w h e own → AreAsked w h e es 0 front own middle → AreAsked w h e es back (length es) middle gone → AreRefused w h e es gone
-front_and_back w h e es front back own middle gone gap between its ahead behind = record {
-  out = λ f c. elim (behind.out f c) [ inl a ↦ elim (ahead.out f a) [ inl b ↦ its.out f b | inr r ↦ r ] | inr r ↦ r ];
-  own = elim its.own [ inl c ↦ inl (behind.kept e (ahead.kept e c)) | inr a ↦ inr a ];
-  all = λ f c. subst (λ g. (Contains gone g ⊎ IsAllowedOn w h g) ⊎ (may_refuse e g ≡ false)) (read_at es c.0 f (Submit 0) c.1 c.2) (one c.0 c.1);
+pub none_of_kind : (w : Fixed Rest) (h : Parts) (e : Event) (kind : ℕ) (es gone : List Event) → ((f : Event) → kind_of f ≡ kind → may_refuse e f ≡ false) → AreAsked w h e (of_kind kind es) gone gone
+none_of_kind w h e kind es gone stays = record {
+  out = λ g c. inl c;
+  kept = λ g c. c;
+  asked = λ f c. inr (stays f (eqb-true (kind_of f) kind (from_filter (λ g. kind_of g == kind) es f (to_has (of_kind kind es) f c)).1));
 }
-  where
-    one : (j : ℕ) → j < length es → (Contains gone (at es j) ⊎ IsAllowedOn w h (at es j)) ⊎ (may_refuse e (at es j) ≡ false)
-    one j within = elim (cases_lt j front) [
-      | inl a ↦ elim (ahead.asked j (omega arith) a) [ inl b ↦ elim b [ inl c ↦ inl (inl (behind.kept (at es j) c)) | inr d ↦ inl (inr d) ] | inr n ↦ inr n ]
-      | inr b ↦ elim (cases_lt j back) [ inl x ↦ inr (between j x within (gap.behind j b within)) | inr y ↦ behind.asked j y within ]
-    ]
 
--- the same in the words of the code: of an event that is the same, up to a number that is the list's length
-pub front_and_back_of : (w : Fixed Rest) (h : Parts) (d e : code.Event) (es : List Event) (front back count : ℕ) (own middle gone : List Event) → d ≡ e → count ≡ length es
-    → IsGap es (Reply 0) front → ((j : ℕ) → j < back → j < length es → is_before (at es j) (Reply 0) ≡ false → may_refuse (event_meant d) (at es j) ≡ false)
-    → IsOwn w h (event_meant e) own → AreAsked w h (event_meant d) es 0 front own middle → AreAsked w h (event_meant d) es back count middle gone → AreRefused w h (event_meant e) es gone
-front_and_back_of w h d e es front back count own middle gone same all gap between its ahead behind =
-    subst (λ x. IsOwn w h (event_meant x) own → AreRefused w h (event_meant x) es gone) same
-    (λ o. front_and_back w h (event_meant d) es front back own middle gone gap between o ahead (subst (λ n. AreAsked w h (event_meant d) es back n middle gone) all behind)) its
+-- they stand in two pieces
+pub both_asked : (w : Fixed Rest) (h : Parts) (e : Event) (head tail : List code.Event) (es old middle new : List Event) → map event_meant (head ++ tail) ≡ es
+    → AreAsked w h e (map event_meant head) old middle → AreAsked w h e (map event_meant tail) middle new → AreAsked w h e es old new
+both_asked w h e head tail es old middle new same ahead behind = record {
+  out = λ g c. elim (behind.out g c) [ inl a ↦ ahead.out g a | inr r ↦ inr r ];
+  kept = λ g c. behind.kept g (ahead.kept g c);
+  asked = λ f c. elim (Contains-append_cases (map event_meant head) (map event_meant tail) f (subst (λ v. Contains v f) (sym same ∙ map-append event_meant head tail) c)) [
+    | inl a ↦ raised w h e f middle new (behind.kept f) (ahead.asked f a)
+    | inr b ↦ behind.asked f b
+  ];
+}
 
--- between the replies and the trims there is nothing but replies, which no event may refuse
-reply_stays : (e f : Event) → is_before f (Reply 0) ≡ false → is_before f (Trim 0 0) ≡ true → may_refuse e f ≡ false
-reply_stays e (Reply n) h g = by (is_abort e)
-  where
-    by : (b : Bool) → ((b && false) || false) ≡ false
-    by true = refl
-    by false = refl
-reply_stays e (Trim j a) h g = absurd (none_lower j a g)
-  where
-    none_less : (n : ℕ) → nat_lt n 0 ≡ true → ⊥
-    none_less n q = let less : n < 0 = ltb-true n 0 q in omega (arith, less)
+kinds : (f : Event) → (1 ≤ kind_of f) × (kind_of f < 28)
+kinds (Submit n) = (omega arith, omega arith)
+kinds _ = (omega arith, omega arith)
 
-    none_lower : (j a : ℕ) → is_before (Trim j a) (Trim 0 0) ≡ true → ⊥
-    none_lower j a g = by (nat_lt j 0) refl (j == 0) (nat_lt a 0) refl g
-      where
-        by : (x : Bool) → nat_lt j 0 ≡ x → (y z : Bool) → nat_lt a 0 ≡ z → (x || (y && z)) ≡ true → ⊥
-        by true p y z q g = none_less j p
-        by false p true true q g = none_less a q
-        by false p true false q g = true≢false (sym g)
-        by false p false z q g = true≢false (sym g)
-reply_stays e _ h g = absurd (true≢false h)
+-- of e itself, and of the kinds below one, all that are refused are gone, but for what e can't refuse
+pub record AreRefusedBelow (w : Fixed Rest) (h : Parts) (e : Event) (es : List Event) (kind : ℕ) (gone : List Event) : Type 0 where
+  pub out : (f : Event) → Contains gone f → IsRefusedOn w h f
+  pub own : Contains gone e ⊎ IsAllowedOn w h e
+  pub below : (f : Event) → Contains es f → kind_of f < kind → (Contains gone f ⊎ IsAllowedOn w h f) ⊎ (may_refuse e f ≡ false)
 
-pub trims_behind : (e : Event) (es : List Event) (n : ℕ) → IsGap es (Trim 0 0) n → (j : ℕ) → j < n → j < length es → is_before (at es j) (Reply 0) ≡ false → may_refuse e (at es j) ≡ false
-trims_behind e es n gap j ahead within late = reply_stays e (at es j) late (gap.ahead j ahead)
+pub no_kind : (w : Fixed Rest) (h : Parts) (e : Event) (es gone : List Event) → IsOwn w h e gone → AreRefusedBelow w h e es 1 gone
+no_kind w h e es gone its = record { out = its.out; own = its.own; below = λ f c less. absurd (omega (arith, less, (kinds f).0)) }
 
--- where the reach is narrow nothing there may be refused
-behind_replies : (e f : Event) → is_abort e ≡ false → is_some (bid_of_event e) ≡ false → is_before f (Reply 0) ≡ false → may_refuse e f ≡ false
-behind_replies e f z k h = rw z (by f h)
-  where
-    none_at : (n : ℕ) (o : Option ℕ) → is_some o ≡ false → is_at n o ≡ false
-    none_at n None q = refl
-    none_at n (Some m) q = absurd (true≢false q)
+-- the kinds were asked for in the words of the code: of an event that is the same
+pub one_kind : (w : Fixed Rest) (h : Parts) (d e : code.Event) (es : List Event) (kind : ℕ) (gone new : List Event) → d ≡ e
+    → AreRefusedBelow w h (event_meant e) es kind gone → AreAsked w h (event_meant d) (of_kind kind es) gone new → AreRefusedBelow w h (event_meant e) es (kind + 1) new
+one_kind w h d e es kind gone new same so_far one = record {
+  out = λ f c. elim (one.out f c) [ inl a ↦ so_far.out f a | inr r ↦ r ];
+  own = elim so_far.own [ inl c ↦ inl (one.kept (event_meant e) c) | inr allowed ↦ inr allowed ];
+  below = λ f c less. elim (cases_lt (kind_of f) kind) [
+    | inl a ↦ raised w h (event_meant e) f gone new (one.kept f) (so_far.below f c a)
+    | inr b ↦
+        let q : kind_of f ≡ kind = omega (arith, less, b) in
+        subst (λ x. (Contains new f ⊎ IsAllowedOn w h f) ⊎ (may_refuse (event_meant x) f ≡ false)) same
+        (one.asked f (from_has (of_kind kind es) f (has_filter (λ g. kind_of g == kind) es f (to_has es f c) (eq-eqb (kind_of f) kind q))))
+  ];
+}
 
-    by : (f : Event) → is_before f (Reply 0) ≡ false → is_in_reach e f ≡ false
-    by (Reply n) h = refl
-    by (Trim j a) h = none_at j (bid_of_event e) k
-    by _ h = absurd (true≢false h)
-
-pub none_behind : (e : Event) (es : List Event) (wide : Bool) → wide ≡ (is_abort e || is_some (bid_of_event e)) → wide ≡ false → (j : ℕ) → is_before (at es j) (Reply 0) ≡ false → may_refuse e (at es j) ≡ false
-none_behind e es wide is narrow j late =
-    let none = or_parts (is_abort e) (is_some (bid_of_event e)) (sym is ∙ narrow) in
-    behind_replies e (at es j) none.0 none.1 late
+pub all_kinds : (w : Fixed Rest) (h : Parts) (e : Event) (es : List Event) (kind : ℕ) (gone : List Event) → 28 ≤ kind → AreRefusedBelow w h e es kind gone → AreRefused w h e es gone
+all_kinds w h e es kind gone past so_far = record { out = so_far.out; own = so_far.own; all = λ f c. so_far.below f c (omega (arith, past, (kinds f).1)) }
 
 -- ---- together
 
@@ -244,15 +224,15 @@ new_is w e s f ruled touched before now = by (refusal w f s == 0) refl
     by true q = absurd (before ((ruled s).0 (eqb-true (refusal w f s) 0 q)))
     by false q = rw (touched, q, eq-eqb (refusal w f (after w e s)) 0 ((ruled (after w e s)).1 now)) refl
 
-pub renewed : (w : Fixed Rest) (h : Parts) (e : Event) (news gone old middle new : List Event)
+pub renewed : (w : Fixed Rest) (h : Parts) (e : Event) (ahead news gone old middle new : List Event)
     → ((w : Fixed Rest) (e : Event) (s : Machine Rest) → HasRun w s → IsAllowed w e s → HasRun w (after w e s))
     → ((w : Fixed Rest) (e : Event) (s : Machine Rest) → (refusal w e s ≡ 0) ↔ IsAllowed w e s)
     → ((asked : Event → Bool) (w : Fixed Rest) (s : Machine Rest) (es : List Event) → PartsTell asked w s es → (f : Event) → asked f ≡ true → IsAllowed w f s → Contains es f)
     → OfEveryRun (RenewedAreEnabled {C = Rest})
-    → ((s : Machine Rest) → IsBehind w e s h → PartsTell (is_new w e s) w (after w e s) news)
+    → ((s : Machine Rest) → IsBehind w e s h → IsForeseen w e s ahead → PartsTell (is_new w e s) w (after w e s) news)
     → AreRefused w h e old gone → IsWithout gone old middle → IsWith w h news middle new
-    → (s : Machine Rest) → IsBehind w e s h → IsEnabled w s old → IsEnabled w (after w e s) new
-renewed w h e news gone old middle new on ruled tells enabled told out less more s is =
+    → (s : Machine Rest) → IsBehind w e s h → IsForeseen w e s ahead → IsEnabled w s old → IsEnabled w (after w e s) new
+renewed w h e ahead news gone old middle new on ruled tells enabled told out less more s is foreseen =
     let run = is.run in
     subst (λ t. IsAllowed w e t → IsRenewed w e t old new → IsEnabled w t old → IsEnabled w (after w e t) new) (sym run.is_reached) (enabled w run.finish run.events run.facts run.text run.run e old new) is.allowed (record {
       only = λ f c. elim (more.only f c) [
@@ -266,7 +246,7 @@ renewed w h e news gone old middle new on ruled tells enabled told out less more
         | inr allowed ↦ inl (here e allowed)
       ];
       kept = λ f c now. elim (less.kept f c) [ inl a ↦ more.kept f a | inr g ↦ absurd (out.out f g (after w e s) later is.fits now) ];
-      told = λ f touched before now. elim (more.due f (tells (is_new w e s) w (after w e s) news (told s is) f (new_is w e s f (ruled w f) touched before now) now)) [ inl c ↦ c | inr r ↦ absurd (r (after w e s) later is.fits now) ];
+      told = λ f touched before now. elim (more.due f (tells (is_new w e s) w (after w e s) news (told s is foreseen) f (new_is w e s f (ruled w f) touched before now) now)) [ inl c ↦ c | inr r ↦ absurd (r (after w e s) later is.fits now) ];
       ascends = λ a. more.ascends (less.ascends a);
     })
   where

@@ -1,3 +1,3 @@
-pub mod Extended
+pub mod Advanced
 pub mod FirstAllowed
 pub mod KeptEvents

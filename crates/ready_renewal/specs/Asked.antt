@@ -1,5 +1,5 @@
 -- What is asked again after an event, with all parts at hand, and what becomes of the kept events.
-use Rattle.std.specs.Prelude.{◌≡◌, ℕ, ◌<◌, ◌≤◌, false, List, Contains, ◌⊎◌}
+use Rattle.std.specs.Prelude.{◌≡◌, ℕ, ◌==◌, false, List, Contains, filter, ◌⊎◌}
 use Rattle.aml_slice.specs.Controls.{Rest}
 use Rattle.snap_hand.specs.core_rows.OnRuns.{HasRun}
 use Rattle.protocol.specs.Conditions.{IsAllowed}
@@ -8,7 +8,7 @@ use Rattle.protocol.specs.Fixed.{Fixed}
 use Rattle.protocol.specs.Parts.{Machine}
 use Rattle.protocol.specs.Schedule.{AscendByRank}
 use Rattle.protocol_ready.specs.Refusing.{may_refuse}
-use Rattle.ready_list.specs.Order.{at}
+use Rattle.ready_list.specs.Order.{kind_of}
 use Rattle.snap_hand.specs.Hands.{Parts, Fits}
 
 -- in each state that the hand fits it is allowed
@@ -18,6 +18,10 @@ IsAllowedOn w h f = (s : Machine Rest) → HasRun w s → Fits h s → IsAllowed
 -- in none it is
 abbrev pub IsRefusedOn : Fixed Rest → Parts → Event → Type 0
 IsRefusedOn w h f = (s : Machine Rest) → HasRun w s → Fits h s → IsAllowed w f s → ⊥
+
+-- those of one kind
+abbrev pub of_kind : ℕ → List Event → List Event
+of_kind kind es = filter (λ f. kind_of f == kind) es
 
 -- the event itself is gone where it is refused, and nothing else is
 pub record IsOwn (w : Fixed Rest) (h : Parts) (e : Event) (gone : List Event) : Type 0 where
@@ -30,11 +34,11 @@ pub record IsAsked (w : Fixed Rest) (h : Parts) (e f : Event) (old new : List Ev
   pub kept : (g : Event) → Contains old g → Contains new g
   pub asked : (Contains new f ⊎ IsAllowedOn w h f) ⊎ (may_refuse e f ≡ false)
 
--- Of the kept events those from one place up to another were asked for again.
-pub record AreAsked (w : Fixed Rest) (h : Parts) (e : Event) (es : List Event) (first end : ℕ) (old new : List Event) : Type 0 where
+-- These were asked for again.
+pub record AreAsked (w : Fixed Rest) (h : Parts) (e : Event) (es old new : List Event) : Type 0 where
   pub out : (g : Event) → Contains new g → Contains old g ⊎ IsRefusedOn w h g
   pub kept : (g : Event) → Contains old g → Contains new g
-  pub asked : (j : ℕ) → first ≤ j → j < end → (Contains new (at es j) ⊎ IsAllowedOn w h (at es j)) ⊎ (may_refuse e (at es j) ≡ false)
+  pub asked : (f : Event) → Contains es f → (Contains new f ⊎ IsAllowedOn w h f) ⊎ (may_refuse e f ≡ false)
 
 -- Of these events, and e itself, all that are refused are gone, but for what e can't refuse.
 pub record AreRefused (w : Fixed Rest) (h : Parts) (e : Event) (es gone : List Event) : Type 0 where

@@ -1,22 +1,25 @@
-//! Lists of allowed events, renewed or extended after an event.
-ghost use Rattle.std.specs.Prelude.{◌≡◌, OnErr, OnOk};
+//! Lists of allowed events, renewed or advanced after an event.
+ghost use Rattle.std.specs.Prelude.{◌≡◌, map, OnErr, OnOk};
 ghost use Rattle.aml_slice.specs.Controls.{Rest};
 ghost use Rattle.core_events.specs.Meant.{event_meant};
 ghost use Rattle.protocol.specs.Effects.{after};
 ghost use Rattle.protocol.specs.Parts.{Machine};
 ghost use Rattle.protocol.specs.Schedule.{IsEnabled};
-ghost use Rattle.ready_renewal.specs.Covering.{Covers, Extends};
+ghost use Rattle.ready_renewal.specs.Covering.{Covers};
 ghost use Rattle.snap_hand.specs.Hands.{IsHandOf, IsWhole};
 ghost use Rattle.snap_hand.specs.Steps.{OnSomeRun};
 ghost use Rattle.snap_hand.specs.Tables.{AreTables, fixed_of};
-ghost use Rattle.ready_news.specs.New.{IsBehind};
+ghost use Rattle.ready_news.specs.New.{IsBehind, IsForeseen};
 
 use crate::refused::refused;
 use crate::revising::{put_in, take_out};
 use aml_slice::Control;
 use core_events::Event;
 use protocol_laws::allowed_or_refused;
-use protocol_ready::{parts_tell_all, renewed_are_enabled, states_are_sound, untouched_stay};
+use protocol_ready::{
+    events_stay_in_order, no_event_is_allowed_again, one_is_taken, parts_tell_all,
+    renewed_are_enabled, states_are_sound, untouched_stay,
+};
 use ready_list::ReadyList;
 use ready_news::touched;
 use snap_base::Memory;
@@ -24,8 +27,8 @@ use snap_hand::{Hand, Tables, runs_go_on};
 use std::alloc::Global;
 
 /// Makes of all allowed events before the event, which was just taken, all allowed events after it. All parts are at hand, as
-/// they are after it. For want of memory the list is as it was. `news` is for lists that are made on the way: what is in it is
-/// not read, and nothing is said of what it has then.
+/// they are after it. For want of memory the list is as it was. What `foreseen` put into `news` ahead of the event is handed in;
+/// nothing is said of what `news` has then.
 pub fn renew(
     alloc: Global,
     tables: &Tables,
@@ -38,7 +41,7 @@ pub fn renew(
     requires places { IsHandOf (fixed_of tables.now) hand.now }
     requires whole { IsWhole hand.now }
     requires some { OnSomeRun (fixed_of tables.now) hand.now }
-    ensures renewed { OnOk result ((s : Machine Rest) → IsBehind (fixed_of tables.now) (event_meant e) s hand.now → IsEnabled (fixed_of tables.now) s list.old.events → IsEnabled (fixed_of tables.now) (after (fixed_of tables.now) (event_meant e) s) list.new.events) }
+    ensures renewed { OnOk result ((s : Machine Rest) → IsBehind (fixed_of tables.now) (event_meant e) s hand.now → IsForeseen (fixed_of tables.now) (event_meant e) s (map event_meant news.old.items) → IsEnabled (fixed_of tables.now) s list.old.events → IsEnabled (fixed_of tables.now) (after (fixed_of tables.now) (event_meant e) s) list.new.events) }
     ensures unchanged { OnErr result (list.new.events ≡ list.old.events) }
 {
     runs_go_on::<Control>();
@@ -47,17 +50,18 @@ pub fn renew(
     renewed_are_enabled::<Control>();
     touched(alloc, tables, hand, e, news)?;
     let gone = refused(alloc, tables, hand, e, list)?;
-    list.room(news.len())?;
+    let listed = news.as_slice();
+    list.room(listed)?;
     take_out(list, &gone);
-    put_in(tables, hand, news.as_slice(), list);
+    put_in(tables, hand, listed, list);
     Ok(())
 }
 
 /// Makes of events among which all were that were allowed before the event, which was just taken, events among which all are that
-/// are allowed after it: what the event has made allowed is put in, and nothing is taken out. All parts are at hand, as they are
-/// after it. For want of memory the list is as it was. `news` is for lists that are made on the way: what is in it is not read, and
-/// nothing is said of what it has then.
-pub fn extend(
+/// are allowed after it: the event is taken out, since it is not allowed right behind itself, and what it has made allowed is put
+/// in. All parts are at hand, as they are after it. For want of memory the list is as it was. What `foreseen` put into `news` ahead
+/// of the event is handed in; nothing is said of what `news` has then.
+pub fn advance(
     alloc: Global,
     tables: &Tables,
     hand: &Hand,
@@ -69,8 +73,7 @@ pub fn extend(
     requires places { IsHandOf (fixed_of tables.now) hand.now }
     requires whole { IsWhole hand.now }
     requires some { OnSomeRun (fixed_of tables.now) hand.now }
-    ensures extended { OnOk result ((s : Machine Rest) → IsBehind (fixed_of tables.now) (event_meant e) s hand.now → Covers (fixed_of tables.now) s list.old.events → Covers (fixed_of tables.now) (after (fixed_of tables.now) (event_meant e) s) list.new.events) }
-    ensures only { OnOk result (Extends (fixed_of tables.now) hand.now list.old.events list.new.events) }
+    ensures advanced { OnOk result ((s : Machine Rest) → IsBehind (fixed_of tables.now) (event_meant e) s hand.now → IsForeseen (fixed_of tables.now) (event_meant e) s (map event_meant news.old.items) → Covers (fixed_of tables.now) s list.old.events → Covers (fixed_of tables.now) (after (fixed_of tables.now) (event_meant e) s) list.new.events) }
     ensures unchanged { OnErr result (list.new.events ≡ list.old.events) }
 {
     runs_go_on::<Control>();
@@ -78,8 +81,13 @@ pub fn extend(
     parts_tell_all::<Control>();
     untouched_stay::<Control>();
     states_are_sound::<Control>();
+    no_event_is_allowed_again::<Control>();
+    events_stay_in_order();
+    one_is_taken();
     touched(alloc, tables, hand, e, news)?;
-    list.room(news.len())?;
-    put_in(tables, hand, news.as_slice(), list);
+    let listed = news.as_slice();
+    list.room(listed)?;
+    list.take(e);
+    put_in(tables, hand, listed, list);
     Ok(())
 }

@@ -1,6 +1,8 @@
 //! What is taken out of the kept events, and put in.
-ghost use Rattle.std.specs.Prelude.{◌≡◌, ◌+◌, ◌≤◌, map, length};
+ghost use Rattle.std.specs.Prelude.{ℕ, ◌+◌, ◌≤◌, map, length, Contains};
 ghost use Rattle.core_events.specs.Meant.{event_meant};
+ghost use Rattle.protocol.specs.Events as machine;
+ghost use Rattle.ready_list.specs.Order.{kind_of, spare_of};
 ghost use Rattle.ready_renewal.specs.Asked.{IsPutIn, IsWith, IsWithout};
 ghost use Rattle.snap_hand.specs.Hands.{IsHandOf, IsWhole};
 ghost use Rattle.snap_hand.specs.Steps.{OnSomeRun};
@@ -15,7 +17,7 @@ use snap_hand::{Hand, Tables};
 /// Takes these out.
 pub(crate) fn take_out(list: &mut ReadyList, gone: &[Event])
     ensures without { IsWithout (map event_meant gone.now) list.old.events list.new.events }
-    ensures no_less { list.old.spare ≤ list.new.spare }
+    ensures no_less { (k : ℕ) → spare_of list.old k ≤ spare_of list.new k }
 {
     events_stay_in_order();
     one_is_taken();
@@ -30,9 +32,9 @@ fn look(tables: &Tables, hand: &Hand, e: Event, list: &mut ReadyList)
     requires places { IsHandOf (fixed_of tables.now) hand.now }
     requires whole { IsWhole hand.now }
     requires some { OnSomeRun (fixed_of tables.now) hand.now }
-    requires room { 1 ≤ list.old.spare }
+    requires room { 1 ≤ spare_of list.old (kind_of (event_meant e)) }
     ensures looked { IsPutIn (fixed_of tables.now) hand.now (event_meant e) list.old.events list.new.events }
-    ensures room { list.old.spare ≤ list.new.spare + 1 }
+    ensures room { (k : ℕ) → spare_of list.old k ≤ spare_of list.new k + 1 }
 {
     events_stay_in_order();
     one_is_put();
@@ -47,7 +49,7 @@ pub(crate) fn put_in(tables: &Tables, hand: &Hand, news: &[Event], list: &mut Re
     requires places { IsHandOf (fixed_of tables.now) hand.now }
     requires whole { IsWhole hand.now }
     requires some { OnSomeRun (fixed_of tables.now) hand.now }
-    requires room { length news.now ≤ list.old.spare }
+    requires room { (f : machine.Event) → Contains (map event_meant news.now) f → length news.now ≤ spare_of list.old (kind_of f) }
     ensures { IsWith (fixed_of tables.now) hand.now (map event_meant news.now) list.old.events list.new.events }
 {
     for e in news {

@@ -1,9 +1,6 @@
 -- A core whose hand takes an event, and the run that it has come from.
-use Rattle.std.proofs.Common.{◌≡◌, ℕ, Result, Ok, Err, OnOk, OnErr, IfOk, IfErr, Option, Some, None, map, drop, List, [], ◌∷◌, ◌++◌, slice_get, refl, sym, ap, subst, inl, inr, ◌∙◌}
-use Rattle.std.specs.Prelude.{IfSome}
+use Rattle.std.proofs.Common.{◌≡◌, ℕ, Result, Ok, Err, OnOk, OnErr, IfOk, IfErr, map, drop, List, [], ◌∷◌, ◌++◌, slice_get, refl, sym, ap, subst, ◌∙◌}
 use Rattle.aml_slice.specs.Controls.{Rest}
-use Rattle.core_events.specs.Meant.{event_meant}
-use Rattle.core_events.specs.declared.events.Event as code
 use Rattle.snap_hand.specs.core_rows.OnRuns.{HasRun}
 use Rattle.snap_hand.specs.core_rows.declared.step_no.StepNo.{StepNo}
 use Rattle.snap_hand.specs.core_rows.declared.step_no.StepNo.TheVariants.{NotNow, Memory}
@@ -16,16 +13,13 @@ use Rattle.protocol.specs.Parts.{Machine}
 use Rattle.protocol.specs.Schedule.{IsEnabled}
 use Rattle.ready_listing.specs.Offers.{AreOffers}
 use Rattle.ready_list.specs.Order.{RoomedList}
-use Rattle.protocol.specs.Runs.{EachAllowed, IsQuiet, IsRun, state_after, reached, opening}
-use Rattle.ready_renewal.specs.Covering.{Covers, CoversStill, HasNoFirst, IsFirst, IsFirstOf}
-use Rattle.ready_renewal.specs.Covering as hands
-use Rattle.snap_core.specs.Kept.{Extends, Sheds}
+use Rattle.protocol.specs.Runs.{EachAllowed, IsRun, state_after, reached, opening}
 use Rattle.snap_core.specs.Cores.{CoreState, IsCore, IsAt, state_at, HasTaken, IsRefusalBy, IsNoBy}
 use Rattle.snap_hand.proofs.Held.{all_here}
 use Rattle.snap_hand.specs.Hands.{Parts, Fits}
 use Rattle.snap_hand.specs.Steps.{MayBeAsked, IsRefusalOn, IsStep}
 use Rattle.snap_hand.specs.Tables.{fixed_of}
-use Rattle.ready_renewal.specs.ready_news.New.{IsBehind}
+use Rattle.ready_news.specs.New.{IsAheadOf, IsBehind, IsForeseen}
 use Rattle.snap_hand.specs.declared.tables.Tables.{Tables}
 
 abbrev pub core_of : Tables → Parts → CoreState
@@ -116,58 +110,36 @@ parted : (w : Fixed Rest) (es : List Event) (e : Event) (s : Machine Rest) → E
 parted w [] e s run = (tt, run.0)
 parted w (d ∷ es) e s run = let r = parted w es e (after w d s) run.1 in ((run.0, r.0), r.1)
 
--- what holds of a kept list before an event, and of the one that is made of it after it
-abbrev pub GoesOnAt : (Fixed Rest → Machine Rest → List Event → Type 0) → CoreState → Event → List Event → List Event → Type 0
-GoesOnAt P core e old new = (es : List Event) → IsAt core (es ++ e ∷ []) → P (fixed_of core.tables) (state_at core es) old → P (fixed_of core.tables) (state_at core (es ++ e ∷ [])) new
+-- what holds of a kept list before an event, where what the event makes allowed was foreseen, and of the one that is made of it after it
+abbrev pub GoesOnAt : (Fixed Rest → Machine Rest → List Event → Type 0) → CoreState → Event → List Event → List Event → List Event → Type 0
+GoesOnAt P core e ahead old new = (es : List Event) → IsAt core (es ++ e ∷ []) → IsForeseen (fixed_of core.tables) e (state_at core es) ahead → P (fixed_of core.tables) (state_at core es) old → P (fixed_of core.tables) (state_at core (es ++ e ∷ [])) new
 
 module _ (P : Fixed Rest → Machine Rest → List Event → Type 0) where
-  goes_on_in : {E : Type 0} (t : Tables) (h : Parts) → ((es : List Event) → IsRun (fixed_of t) es → HasRun (fixed_of t) (reached (fixed_of t) es)) → (e : Event) (old new : List Event)
-      → (r : Result (Unit {0}) E) → OnOk r ((s : Machine Rest) → IsBehind (fixed_of t) e s h → P (fixed_of t) s old → P (fixed_of t) (after (fixed_of t) e s) new)
-      → OnOk r (GoesOnAt P (core_of t h) e old new)
-  goes_on_in t h lead e old new (Err n) goes = tt
-  goes_on_in t h lead e old new (Ok _) goes = λ es at before.
+  goes_on_in : {E : Type 0} (t : Tables) (h : Parts) → ((es : List Event) → IsRun (fixed_of t) es → HasRun (fixed_of t) (reached (fixed_of t) es)) → (e : Event) (ahead old new : List Event)
+      → (r : Result (Unit {0}) E) → OnOk r ((s : Machine Rest) → IsBehind (fixed_of t) e s h → IsForeseen (fixed_of t) e s ahead → P (fixed_of t) s old → P (fixed_of t) (after (fixed_of t) e s) new)
+      → OnOk r (GoesOnAt P (core_of t h) e ahead old new)
+  goes_on_in t h lead e ahead old new (Err n) goes = tt
+  goes_on_in t h lead e ahead old new (Ok _) goes = λ es at foreseen before.
       let w = fixed_of t in
       let p = parted w es e (opening w) at.run in
       let q = then w es e (opening w) in
-      subst (λ s. P w s new) (sym q) (goes (reached w es) (record { run = lead es p.0; allowed = p.1; fits = subst (Fits h) q at.fits }) before)
+      subst (λ s. P w s new) (sym q) (goes (reached w es) (record { run = lead es p.0; allowed = p.1; fits = subst (Fits h) q at.fits }) foreseen before)
 
-  pub goes_on_at : {E : Type 0} (core : CoreState) (t : Tables) (h : Parts) → core_of t h ≡ core → ((es : List Event) → IsRun (fixed_of t) es → HasRun (fixed_of t) (reached (fixed_of t) es)) → (e : Event) (old new : List Event)
-      → (r : Result (Unit {0}) E) → OnOk r ((s : Machine Rest) → IsBehind (fixed_of t) e s h → P (fixed_of t) s old → P (fixed_of t) (after (fixed_of t) e s) new)
-      → OnOk r (GoesOnAt P core e old new)
-  goes_on_at core t h view lead e old new r goes = subst (λ z. OnOk r (GoesOnAt P z e old new)) view (goes_on_in t h lead e old new r goes)
+  pub goes_on_at : {E : Type 0} (core : CoreState) (t : Tables) (h : Parts) → core_of t h ≡ core → ((es : List Event) → IsRun (fixed_of t) es → HasRun (fixed_of t) (reached (fixed_of t) es)) → (e : Event) (ahead old new : List Event)
+      → (r : Result (Unit {0}) E) → OnOk r ((s : Machine Rest) → IsBehind (fixed_of t) e s h → IsForeseen (fixed_of t) e s ahead → P (fixed_of t) s old → P (fixed_of t) (after (fixed_of t) e s) new)
+      → OnOk r (GoesOnAt P core e ahead old new)
+  goes_on_at core t h view lead e ahead old new r goes = subst (λ z. OnOk r (GoesOnAt P z e ahead old new)) view (goes_on_in t h lead e ahead old new r goes)
 
--- what holds in each state that the hand fits holds wherever the core is
-pub where_it_is : (P : Fixed Rest → Machine Rest → Type 0) (core : CoreState) (t : Tables) (h : Parts) → core_of t h ≡ core → ((es : List Event) → IsRun (fixed_of t) es → HasRun (fixed_of t) (reached (fixed_of t) es))
-    → ((s : Machine Rest) → HasRun (fixed_of t) s → Fits h s → P (fixed_of t) s)
-    → (es : List Event) → IsAt core es → P (fixed_of core.tables) (state_at core es)
-where_it_is P core t h view lead holds = subst (λ z. (es : List Event) → IsAt z es → P (fixed_of z.tables) (state_at z es)) view (λ es at. holds (reached (fixed_of t) es) (lead es at.run) at.fits)
+-- ---- what an event will make allowed, ahead of it
 
--- ---- the first of the allowed events
+abbrev IsForeseenAt : CoreState → Event → List Event → Type 0
+IsForeseenAt core e news = (es : List Event) → IsAt core es → IsAllowed (fixed_of core.tables) e (state_at core es) → IsForeseen (fixed_of core.tables) e (state_at core es) news
 
-module _ (core : CoreState) (t : Tables) (h : Parts) (view : core_of t h ≡ core) (lead : (es : List Event) → IsRun (fixed_of t) es → HasRun (fixed_of t) (reached (fixed_of t) es)) where
-  pub first_at : (o : Option code.Event) (old : List Event) → IfSome o (λ e. IsFirstOf (fixed_of t) h old (event_meant e))
-      → IfSome o (λ e. (es : List Event) → IsAt core es → Covers (fixed_of core.tables) (state_at core es) old → IsFirst (fixed_of core.tables) (state_at core es) (event_meant e))
-  first_at None old is = tt
-  first_at (Some e) old is = where_it_is (λ w s. Covers w s old → IsFirst w s (event_meant e)) core t h view lead is
+foreseen_in : {E : Type 0} (t : Tables) (h : Parts) → ((es : List Event) → IsRun (fixed_of t) es → HasRun (fixed_of t) (reached (fixed_of t) es)) → (e : Event) (news : List Event)
+    → (r : Result (Unit {0}) E) → OnOk r ((s : Machine Rest) → IsAheadOf (fixed_of t) e s h → IsForeseen (fixed_of t) e s news) → OnOk r (IsForeseenAt (core_of t h) e news)
+foreseen_in t h lead e news (Err n) told = tt
+foreseen_in t h lead e news (Ok _) told = λ es at allowed. told (reached (fixed_of t) es) (record { run = lead es at.run; allowed = allowed; fits = at.fits })
 
-  pub no_first_at : (old : List Event) → HasNoFirst (fixed_of t) h old → (es : List Event) → IsAt core es → Covers (fixed_of core.tables) (state_at core es) old → IsQuiet (fixed_of core.tables) (state_at core es)
-  no_first_at old none = where_it_is (λ w s. Covers w s old → IsQuiet w s) core t h view lead none
-
-  pub still_at : (old new : List Event) → CoversStill (fixed_of t) h old new → (es : List Event) → IsAt core es → Covers (fixed_of core.tables) (state_at core es) old → Covers (fixed_of core.tables) (state_at core es) new
-  still_at old new still = where_it_is (λ w s. Covers w s old → Covers w s new) core t h view lead still
-
--- ---- what is put in and taken out
-
-module _ (core : CoreState) (t : Tables) (h : Parts) (view : core_of t h ≡ core) (lead : (es : List Event) → IsRun (fixed_of t) es → HasRun (fixed_of t) (reached (fixed_of t) es)) (old new : List Event) where
-  pub extends_at : {E : Type 0} (r : Result (Unit {0}) E) → OnOk r (hands.Extends (fixed_of t) h old new) → OnOk r (Extends core old new)
-  extends_at (Err e) more = tt
-  extends_at (Ok _) more = subst (λ z. Extends z old new) view (record {
-    kept = more.kept;
-    only = λ f c. elim (more.only f c) [ inl was ↦ inl was | inr ok ↦ inr (λ es at. ok (reached (fixed_of t) es) (lead es at.run) at.fits) ];
-  })
-
-  pub sheds_at : hands.Sheds (fixed_of t) h old new → Sheds core old new
-  sheds_at less = subst (λ z. Sheds z old new) view (record {
-    only = less.only;
-    kept = λ f c. elim (less.kept f c) [ inl still ↦ inl still | inr gone ↦ inr (λ es at ok. gone (reached (fixed_of t) es) (lead es at.run) at.fits ok) ];
-  })
+pub foreseen_at : {E : Type 0} (core : CoreState) (t : Tables) (h : Parts) → core_of t h ≡ core → ((es : List Event) → IsRun (fixed_of t) es → HasRun (fixed_of t) (reached (fixed_of t) es)) → (e : Event) (news : List Event)
+    → (r : Result (Unit {0}) E) → OnOk r ((s : Machine Rest) → IsAheadOf (fixed_of t) e s h → IsForeseen (fixed_of t) e s news) → OnOk r (IsForeseenAt core e news)
+foreseen_at core t h view lead e news r told = subst (λ z. OnOk r (IsForeseenAt z e news)) view (foreseen_in t h lead e news r told)

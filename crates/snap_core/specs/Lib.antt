@@ -20,5 +20,5 @@ pub use Rattle.machine_laws.specs as machine_laws
 pub use Rattle.snap_hand.specs.machine_text as machine_text
 pub use Rattle.snap_hand.specs as snap_hand
 pub use Rattle.ready_listing.specs as ready_listing
-pub use Rattle.ready_renewal.specs.ready_news as ready_news
+pub use Rattle.ready_news.specs as ready_news
 pub use Rattle.ready_renewal.specs as ready_renewal

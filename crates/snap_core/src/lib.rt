@@ -18,4 +18,5 @@ pub use core_events::Event;
 pub use cores::Core;
 pub use parting::one_core_of_parts;
 pub use ready_list::ReadyList;
+pub use ready_renewal::front;
 pub use snap_hand::{Hand, Opening, Part, StepNo, Tables, Work, apply, fresh, works_are_texts};
