@@ -1,9 +1,10 @@
 -- A turn: an event that was picked, what stands before it, and the step.
-use Rattle.std.proofs.Common.{◌≡◌, ℕ, ◌+◌, ◌-◌, ◌*◌, ◌≤◌, ◌<◌, true, None, Option, Result, Ok, Err, List, [], ◌∷◌, ◌++◌, length, map, refl, sym, ap, subst, ◌∙◌, arith}
-use Rattle.std.specs.Prelude.{MatchResult}
+use Rattle.std.proofs.Common.{◌≡◌, ℕ, ◌+◌, ◌-◌, ◌*◌, ◌≤◌, ◌<◌, true, None, Some, Option, Result, Ok, Err, List, [], ◌∷◌, ◌++◌, length, map, refl, sym, ap, subst, ◌∙◌, arith}
+use Rattle.std.specs.Prelude.{MatchOption, MatchResult}
 use Rattle.std.specs.Io.KnownBytes.{Appends}
 use Rattle.gate_log.specs.State.{LogState, AreAllOpen}
 use Rattle.protocol.specs.Conditions.{IsAllowed}
+use Rattle.rand_pcg.specs.Lcg.{Lcg}
 use Rattle.std.proofs.lemmas.List.{length-append, length-map}
 use Rattle.aml_slice.specs.Controls.{Rest}
 use Rattle.snap_core.specs.core_events.declared.events.Event as code
@@ -24,13 +25,14 @@ use Rattle.run_effects.specs.Driven.{IsDriven, tried_on}
 use Rattle.solo_host.specs.Drives.{log_at, failed_by}
 use Rattle.run_effects.specs.RunsOf.{RunsOf}
 use Rattle.solo_host.specs.Outside.{Outside, outside, IsSynced, IsNotSynced, no_group, no_fault, IsPrepared, IsFailure, IsGivenUp, IsPicked, IsEnd}
-use Rattle.solo_host.specs.Turns.{HasGoneOn, HasStopped}
+use Rattle.solo_host.specs.Turns.{HasGoneOn, HasStopped, IsBehindWords}
 use Rattle.run_effects.specs.declared.stops.Stop.{Stop}
 use Rattle.run_effects.specs.declared.stops.Stop.TheVariants as stop
 use Rattle.solo_host.proofs.Preparing.{done_of_sync, given_up_of_sync, log_exists}
 use Rattle.solo_host.proofs.Driving.{IsDriving, IsOver, goes_further, is_over}
 use Rattle.run_effects.proofs.Driving.{driven_same}
 use Rattle.solo_host.proofs.GotGroups.{got_same}
+use Rattle.solo_host.proofs.Words.{drawn_on}
 
 -- an event that may want memory asks for nothing before it
 wants_no_group : (e : Event) → may_want e ≡ true → (l : ℕ) (s : Machine Rest) → group_by l e s ≡ []
@@ -44,7 +46,7 @@ wants_no_line w es e is = refl
 -- ---- the ends
 
 -- nothing was done, and nothing is allowed or there was no memory
-pub idle : (seed : ℕ) (core : CoreState) (es : List Event) (why : Stop) (now : Outside) → IsAt core es → AreAllOpen now.logs
+idle : (seed : ℕ) (core : CoreState) (es : List Event) (why : Stop) (now : Outside) → IsAt core es → AreAllOpen now.logs
     → ((l : ℕ) → tried_on (failed_by why) l (group_behind (fixed_of core.tables) l es) ≡ None) → IsEnd (fixed_of core.tables) seed es why now now → HasStopped seed core core es es why now now
 idle seed core es why now at ready untried end = record {
   same = refl;
@@ -53,6 +55,11 @@ idle seed core es why now at ready untried end = record {
   end = end;
   later = omega arith;
 }
+
+-- the same of a core that is as it was
+pub ended : (seed : ℕ) (core new : CoreState) (es : List Event) (why : Stop) (now : Outside) → new ≡ core → IsAt core es → AreAllOpen now.logs
+    → ((l : ℕ) → tried_on (failed_by why) l (group_behind (fixed_of core.tables) l es) ≡ None) → IsEnd (fixed_of core.tables) seed es why now now → HasStopped seed core new es es why now now
+ended seed core new es why now same at ready untried end = subst (λ (z : CoreState). HasStopped seed core z es es why now now) (sym same) (idle seed core es why now at ready untried end)
 
 ends_by : (w : Fixed Rest) (seed : ℕ) (es : List Event) (e : Event) (why : Stop) (old new : Outside) → IsPicked w seed es e → IsFailure w es e why old new → IsEnd w seed es why old new
 ends_by w seed es e (stop.LogFault l) old new picked is = (subst (IsPicked w seed es) is.0 picked, is.1, is.2, is.3)
@@ -111,6 +118,12 @@ kept_more old mid new e same more = ap (map event_meant) (more ∙ ap (λ xs. xs
 pub gone_on : (seed : ℕ) (core now : CoreState) (es kept : List Event) (e : Event) (old new : Outside) → kept ≡ es ++ e ∷ [] → IsPicked (fixed_of core.tables) seed es e
     → IsAt now (es ++ e ∷ []) → IsPrepared (fixed_of core.tables) es e old new → HasGoneOn seed core now es kept old new
 gone_on seed core now es kept e old new more picked at done = record { event = e; more = more; picked = picked; at = subst (IsAt now) (sym more) at; done = done }
+
+-- where an event was taken a step's word was drawn for it
+pub drawn_if : (o : Option Stop) (seed : ℕ) (core now : CoreState) (es kept : List Event) (g : Lcg) (old new : Outside)
+    → MatchOption o (HasGoneOn seed core now es kept old new) (λ why. HasStopped seed core now es kept why old new) → IsBehindWords seed (length es + 1) g → o ≡ None → IsBehindWords seed (length kept) g
+drawn_if None seed core now es kept g old new gone drawn none = drawn_on seed es kept gone.event g gone.more drawn
+drawn_if (Some why) seed core now es kept g old new gone drawn none = absurd (cc none)
 
 -- ---- along the turns, whose core keeps its text
 

@@ -4,6 +4,7 @@ ghost use Rattle.snap_core.specs.core_events.Meant.{event_meant};
 ghost use Rattle.protocol.specs.Events as machine;
 ghost use Rattle.protocol.specs.Schedule.{IsEnabled};
 ghost use Rattle.snap_core.specs.Cores.{IsAt, state_at};
+ghost use Rattle.snap_core.specs.ready_news.New.{IsForeseen};
 ghost use Rattle.snap_core.specs.snap_hand.Tables.{fixed_of};
 ghost use Rattle.solo_host.specs.Turns.{IsKeptFor, IsOneBehind};
 
@@ -20,7 +21,7 @@ fn list_anew(alloc: Global, core: &Core, list: &mut ReadyList) -> Result<(), Mem
 }
 
 /// Makes of what was kept ahead of the event, which was just taken, what is kept now. Seed 0 takes the first of what is allowed, so
-/// what is refused may stay until it is the first.
+/// what is refused may stay until it is the first. What was foreseen ahead of the event is handed in.
 fn go_on(
     alloc: Global,
     core: &Core,
@@ -30,17 +31,18 @@ fn go_on(
     news: &mut Vec<Event>,
 ) -> Result<(), Memory>
     ensures { OnOk result ((es : List machine.Event) → IsAt core.now (es ++ event_meant e ∷ [])
+        → IsForeseen (fixed_of core.now.tables) (event_meant e) (state_at core.now es) (map event_meant news.old.items)
         → IsKeptFor seed (fixed_of core.now.tables) (state_at core.now es) list.old.events
         → IsKeptFor seed (fixed_of core.now.tables) (state_at core.now (es ++ event_meant e ∷ [])) list.new.events) }
 {
     if seed == 0 {
-        core.extend(alloc, e, list, news)
+        core.advance(alloc, e, list, news)
     } else {
         core.renew(alloc, e, list, news)
     }
 }
 
-/// Makes of what was kept ahead of the last event what is kept now; where there was no event yet, it is listed.
+/// Makes of what was kept and foreseen ahead of the last event what is kept now; where there was no event yet, it is listed.
 pub(crate) fn freshen(
     alloc: Global,
     core: &Core,
@@ -50,7 +52,7 @@ pub(crate) fn freshen(
     news: &mut Vec<Event>,
 ) -> Result<(), Memory>
     requires at { IsAt core.now (map event_meant kept.now.items) }
-    requires behind { IsOneBehind seed (fixed_of core.now.tables) (map event_meant kept.now.items) list.old.events }
+    requires behind { IsOneBehind seed (fixed_of core.now.tables) (map event_meant kept.now.items) list.old.events (map event_meant news.old.items) }
     ensures { OnOk result (IsKeptFor seed (fixed_of core.now.tables) (state_at core.now (map event_meant kept.now.items)) list.new.events) }
 {
     match kept.last() {

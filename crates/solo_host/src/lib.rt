@@ -7,10 +7,13 @@ mod befores;
 mod drives;
 mod freshening;
 mod groups;
+mod keeping;
+mod nexts;
 mod picks;
 mod replies;
-mod steps;
+mod tries;
 mod turns;
+mod waits;
 
 pub use drives::{Driven, drive};
 pub use run_effects::{Stop, write_all};

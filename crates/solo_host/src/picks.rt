@@ -1,18 +1,20 @@
-//! Which of the allowed events comes next.
-ghost use Rattle.std.specs.Prelude.{◌≡◌, ◌+◌, ◌<◌, ℕ, List, [], length, None, Some, IfSome, slice_get};
+//! Which of the kept events comes next.
+ghost use Rattle.std.specs.Prelude.{◌≡◌, ◌+◌, ◌<◌, ℕ, List, [], length, Contains, None, Some, IfSome, slice_get};
+ghost use Rattle.aml_slice.specs.Controls.{Rest};
 ghost use Rattle.snap_core.specs.core_events.Meant.{event_meant};
+ghost use Rattle.protocol.specs.Conditions.{IsAllowed};
 ghost use Rattle.protocol.specs.Events as machine;
-ghost use Rattle.protocol.specs.Runs.{IsQuiet};
+ghost use Rattle.protocol.specs.Fixed.{Fixed};
+ghost use Rattle.protocol.specs.Parts.{Machine};
+ghost use Rattle.protocol.specs.Runs.{IsQuiet, reached};
 ghost use Rattle.protocol.specs.Schedule.{pick};
 ghost use Rattle.protocol_schedule.specs.Draw.{draw_of, word_of};
-ghost use Rattle.snap_core.specs.Cores.{IsAt, state_at};
-ghost use Rattle.snap_core.specs.snap_hand.Tables.{fixed_of};
 ghost use Rattle.solo_host.specs.Outside.{IsPicked};
 ghost use Rattle.solo_host.specs.Turns.{IsBehindWords, IsKeptFor};
 
 use rand_core::utils::NextWord;
 use rand_pcg::Pcg32;
-use snap_core::{Core, Event, ReadyList};
+use snap_core::{Event, ReadyList, front};
 
 /// The generator of a seed, which has drawn no word yet.
 pub(crate) fn generator_of(seed: u64) -> Pcg32
@@ -22,7 +24,7 @@ pub(crate) fn generator_of(seed: u64) -> Pcg32
 }
 
 /// Draws the word of a step, behind those of the steps before it.
-fn draw(generator: &mut Pcg32) -> u32
+pub(crate) fn draw(generator: &mut Pcg32) -> u32
     ensures word { (seed step : ℕ) → IsBehindWords seed step generator.old → result ≡ word_of seed step }
     ensures drawn { (seed step : ℕ) → IsBehindWords seed step generator.old → IsBehindWords seed (step + 1) generator.new }
 {
@@ -42,6 +44,7 @@ fn place_of(seed: u64, word: u32, many: usize) -> usize
 fn by_word(seed: u64, word: u32, enabled: &ReadyList) -> Option<Event>
     ensures some { IfSome result (λ e. (step : ℕ) → word ≡ word_of seed step → slice_get enabled.now.events (pick (draw_of seed) step (length enabled.now.events)) ≡ Some (event_meant e)) }
     ensures none { result ≡ None → enabled.now.events ≡ [] }
+    ensures there { IfSome result (λ e. Contains enabled.now.events (event_meant e)) }
 {
     if enabled.count() == 0 {
         return None;
@@ -49,44 +52,18 @@ fn by_word(seed: u64, word: u32, enabled: &ReadyList) -> Option<Event>
     enabled.nth(place_of(seed, word, enabled.count()))
 }
 
-/// The event that the seed's schedule takes by the word of a step, of those that are kept; `None` exactly where none is allowed.
-fn by_seed(core: &Core, seed: u64, word: u32, list: &mut ReadyList) -> Option<Event>
-    ensures some { IfSome result (λ e. (es : List machine.Event) → IsAt core.now es → word ≡ word_of seed (length es)
-        → IsKeptFor seed (fixed_of core.now.tables) (state_at core.now es) list.old.events
-        → IsPicked (fixed_of core.now.tables) seed es (event_meant e)) }
-    ensures none { result ≡ None → (es : List machine.Event) → IsAt core.now es
-        → IsKeptFor seed (fixed_of core.now.tables) (state_at core.now es) list.old.events
-        → IsQuiet (fixed_of core.now.tables) (state_at core.now es) }
-    ensures kept { (es : List machine.Event) → IsAt core.now es
-        → IsKeptFor seed (fixed_of core.now.tables) (state_at core.now es) list.old.events
-        → IsKeptFor seed (fixed_of core.now.tables) (state_at core.now es) list.new.events }
+/// The event that the seed's schedule takes by the word of a step, of those that are kept, if it is allowed; `None` exactly where
+/// none is kept, and then none is allowed. With another seed than 0 all that are kept are allowed.
+pub(crate) fn by_seed(seed: u64, word: u32, list: &ReadyList) -> Option<Event>
+    ensures some { IfSome result (λ e. (w : Fixed Rest) (es : List machine.Event) → word ≡ word_of seed (length es)
+        → IsKeptFor seed w (reached w es) list.now.events → IsAllowed w (event_meant e) (reached w es)
+        → IsPicked w seed es (event_meant e)) }
+    ensures none { result ≡ None → (w : Fixed Rest) (s : Machine Rest) → IsKeptFor seed w s list.now.events → IsQuiet w s }
+    ensures there { IfSome result (λ e. Contains list.now.events (event_meant e)) }
 {
     if seed == 0 {
-        core.first(list)
+        front(list)
     } else {
         by_word(seed, word, list)
     }
-}
-
-/// The event that the seed's schedule takes at a step, of those that are kept; `None` exactly where none is allowed. One word is
-/// drawn.
-pub(crate) fn picked(
-    core: &Core,
-    seed: u64,
-    generator: &mut Pcg32,
-    list: &mut ReadyList,
-) -> Option<Event>
-    ensures some { IfSome result (λ e. (es : List machine.Event) → IsAt core.now es → IsBehindWords seed (length es) generator.old
-        → IsKeptFor seed (fixed_of core.now.tables) (state_at core.now es) list.old.events
-        → IsPicked (fixed_of core.now.tables) seed es (event_meant e)) }
-    ensures none { result ≡ None → (es : List machine.Event) → IsAt core.now es
-        → IsKeptFor seed (fixed_of core.now.tables) (state_at core.now es) list.old.events
-        → IsQuiet (fixed_of core.now.tables) (state_at core.now es) }
-    ensures kept { (es : List machine.Event) → IsAt core.now es
-        → IsKeptFor seed (fixed_of core.now.tables) (state_at core.now es) list.old.events
-        → IsKeptFor seed (fixed_of core.now.tables) (state_at core.now es) list.new.events }
-    ensures drawn { (step : ℕ) → IsBehindWords seed step generator.old → IsBehindWords seed (step + 1) generator.new }
-{
-    let word = draw(generator);
-    by_seed(core, seed, word, list)
 }

@@ -1,18 +1,19 @@
-//! One turn: an event is picked, what stands before it is done, and it is taken.
-ghost use Rattle.std.specs.Prelude.{None, Some, ◌≡◌, ◌≢◌, ◌<◌, [], ◌∷◌, ◌++◌, length, map, vec_len, vec_capacity, MatchOption};
+//! One turn: an event is picked and taken, once what stands before it is done.
+ghost use Rattle.std.specs.Prelude.{None, Some, ◌≡◌, ◌≢◌, length, map, MatchOption};
 ghost use Rattle.gate_log.specs.State.{AreAllOpen};
 ghost use Rattle.snap_core.specs.core_events.Meant.{event_meant};
-ghost use Rattle.snap_core.specs.Cores.{IsAt, state_at};
+ghost use Rattle.snap_core.specs.Cores.{IsAt};
 ghost use Rattle.snap_core.specs.snap_hand.Tables.{fixed_of};
 ghost use Rattle.snap_outside.specs.Causes.{EndsAtFault};
 ghost use Rattle.run_effects.specs.RunsOf.{RunsOf};
 ghost use Rattle.solo_host.specs.Outside.{AreLow, AreOfFormat2, outside};
-ghost use Rattle.solo_host.specs.Turns.{HasGoneOn, HasStopped, IsBehindWords, IsKeptFor, IsOneBehind};
+ghost use Rattle.solo_host.specs.Turns.{HasGoneOn, HasStopped, IsBehindWords, IsOneBehind};
 
-use crate::befores::before;
 use crate::freshening::freshen;
-use crate::picks::picked;
-use crate::steps::take_step;
+use crate::keeping::keep;
+use crate::nexts::{Next, take_next};
+use crate::picks::draw;
+use crate::waits::take_waiting;
 use gate_log::Log;
 use rand_pcg::Pcg32;
 use run_effects::Stop;
@@ -21,7 +22,7 @@ use snap_outside::{LogDev, Sink};
 use std::alloc::Global;
 
 /// Takes the next event of the seed's schedule and keeps it, or tells why the host ends, with no event taken. The generator and the
-/// lists were kept from the turn before; of `news` only the room is used.
+/// lists were kept from the turn before; `news` has what was foreseen ahead of its event.
 pub(crate) fn turn<D: LogDev, O: Sink>(
     alloc: Global,
     core: &mut Core,
@@ -36,7 +37,7 @@ pub(crate) fn turn<D: LogDev, O: Sink>(
     requires runs { RunsOf (fixed_of core.old.tables) }
     requires at { IsAt core.old (map event_meant kept.old.items) }
     requires drawn { IsBehindWords seed (length (map event_meant kept.old.items)) generator.old }
-    requires behind { IsOneBehind seed (fixed_of core.old.tables) (map event_meant kept.old.items) list.old.events }
+    requires behind { IsOneBehind seed (fixed_of core.old.tables) (map event_meant kept.old.items) list.old.events (map event_meant news.old.items) }
     requires logs { length logs.old.items ≡ core.old.tables.work.logs }
     requires open { AreAllOpen logs.old.items }
     requires format { AreOfFormat2 logs.old.items }
@@ -48,7 +49,7 @@ pub(crate) fn turn<D: LogDev, O: Sink>(
         (λ stop. HasStopped seed core.old core.new (map event_meant kept.old.items) (map event_meant kept.new.items) stop
         (outside logs.old.items (O.taken out.old) (O.faults out.old))
         (outside logs.new.items (O.taken out.new) (O.faults out.new))) }
-    ensures list { result ≡ None → IsKeptFor seed (fixed_of core.old.tables) (state_at core.old (map event_meant kept.old.items)) list.new.events }
+    ensures behind { result ≡ None → IsOneBehind seed (fixed_of core.old.tables) (map event_meant kept.new.items) list.new.events (map event_meant news.new.items) }
     ensures drawn { result ≡ None → IsBehindWords seed (length (map event_meant kept.new.items)) generator.new }
     ensures tables { core.new.tables ≡ core.old.tables }
     ensures once { EndsAtFault (result ≢ Some Stop.OutFault) (O.faults out.old) (O.late out.old) (O.faults out.new) (O.late out.new) }
@@ -56,31 +57,17 @@ pub(crate) fn turn<D: LogDev, O: Sink>(
     let Ok(()) = freshen(alloc, core, seed, kept, list, news) else {
         return Some(Stop::Memory);
     };
-    let Some(e) = picked(core, seed, generator, list) else {
-        return Some(Stop::Quiet);
-    };
     if kept.reserve(1).is_err() {
         return Some(Stop::Memory);
     }
-    match before(alloc, core, logs, out, e) {
-        Ok(()) => {}
-        Err(stop) => return Some(stop),
-    }
-    match take_step(alloc, core, e) {
-        Ok(()) => {}
-        Err(_) => return Some(Stop::Memory),
-    }
-    keep(kept, e);
-    None
-}
-
-/// Keeps the event, in a list that has room for it.
-fn keep(kept: &mut Vec<Event>, e: Event)
-    requires { vec_len kept.old < vec_capacity kept.old }
-    ensures { kept.new.items ≡ kept.old.items ++ e ∷ [] }
-{
-    match kept.push(e) {
-        Ok(()) => {}
-        Err(_) => {}
+    let word = draw(generator);
+    match take_next(alloc, core, seed, word, list) {
+        Next::Quiet => Some(Stop::Quiet),
+        Next::Memory => Some(Stop::Memory),
+        Next::Taken(e) => {
+            keep(kept, e);
+            None
+        }
+        Next::Asks(e) => take_waiting(alloc, core, logs, out, e, news, kept),
     }
 }

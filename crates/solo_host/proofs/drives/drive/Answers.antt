@@ -8,7 +8,7 @@ use Rattle.snap_core.specs.snap_hand.declared.tables.Tables.{Tables}
 use Rattle.run_effects.specs.RunsOf.{RunsOf}
 use Rattle.solo_host.specs.Outside.{outside}
 use Rattle.solo_host.specs.Turns.{IsBehindWords, IsOneBehind}
-use Rattle.solo_host.proofs.KeptList.{first_behind, now_behind}
+use Rattle.solo_host.proofs.KeptList.{first_behind}
 use Rattle.solo_host.proofs.Driving.{IsDriving, begins, still_open, still_of_format, still_low, are_open, are_of_format, are_near}
 use Rattle.solo_host.proofs.Turning.{stays_driving, has_driven, fewer_left}
 use Rattle.snap_outside.proofs.AtFault.{calls_join, no_call, surely}
@@ -22,7 +22,7 @@ turns-init g c =
       at = subst (λ (ks : List code.Event). IsAt c.args.core.now (map event_meant ks)) (sym c.new-kept.ensures.items) c.requires.new;
       tables = refl;
       drawn = subst (λ (ks : List code.Event). IsBehindWords c.args.seed (length (map event_meant ks)) c.generator_of-generator.result) (sym c.new-kept.ensures.items) c.generator_of-generator.ensures;
-      behind = first_behind c.args.seed w c.new-kept.result.items c.new-list.result.events c.new-kept.ensures.items;
+      behind = first_behind c.args.seed w c.new-kept.result.items c.new-list.result.events (map event_meant c.new-news.result.items) c.new-kept.ensures.items;
       driving = subst (λ (ks : List code.Event). IsDriving w c.args.seed (map event_meant ks) start start) (sym c.new-kept.ensures.items) (begins w c.args.seed start (are_open c.args.logs.now.items c.requires.open));
       once = no_call _ _ _;
     }
@@ -34,7 +34,7 @@ pub turn-requires-clause-logs : goal.turn-requires-clause-logs
 turn-requires-clause-logs g c = c.turns.invariant.driving.logs.many ∙ c.requires.logs ∙ ap (λ (t : Tables). t.work.logs) (sym c.turns.invariant.tables)
 
 pub turn-requires-clause-behind : goal.turn-requires-clause-behind
-turn-requires-clause-behind g c = subst (λ (t : Tables). IsOneBehind c.args.seed (fixed_of t) (map event_meant c.turns.kept.items) c.turns.list.events) (sym c.turns.invariant.tables) c.turns.invariant.behind
+turn-requires-clause-behind g c = subst (λ (t : Tables). IsOneBehind c.args.seed (fixed_of t) (map event_meant c.turns.kept.items) c.turns.list.events (map event_meant c.turns.news.items)) (sym c.turns.invariant.tables) c.turns.invariant.behind
 
 pub turn-requires-clause-open : goal.turn-requires-clause-open
 turn-requires-clause-open g c =
@@ -95,8 +95,8 @@ turns-preserved g c =
       at = c.in-None.ensures.goes.at;
       tables = c.in-None.ensures.tables ∙ c.turns.invariant.tables;
       drawn = c.in-None.ensures.drawn refl;
-      behind = now_behind c.args.core.now.tables c.args.seed c.turns.core c.turn.new.core (map event_meant c.turns.kept.items) (map event_meant c.turn.new.kept.items) c.turn.new.list.events old new
-          c.turns.invariant.tables (c.in-None.ensures.list refl) c.in-None.ensures.goes;
+      behind = subst (λ (t : Tables). IsOneBehind c.args.seed (fixed_of t) (map event_meant c.turn.new.kept.items) c.turn.new.list.events (map event_meant c.turn.new.news.items))
+          c.turns.invariant.tables (c.in-None.ensures.behind refl);
       driving = stays_driving c.args.core.now.tables c.args.seed c.turns.core c.turn.new.core (map event_meant c.turns.kept.items) (map event_meant c.turn.new.kept.items) start old new
           c.turns.invariant.tables (subst (λ (t : Tables). RunsOf (fixed_of t)) c.tables.ensures.same c.runs_of.ensures) c.turns.invariant.at c.turns.invariant.driving c.in-None.ensures.goes;
       once = calls_join _ _ _ _ _ _ tt c.turns.invariant.once (surely _ _ _ _ (λ _ is. cc is) c.in-None.ensures.once);

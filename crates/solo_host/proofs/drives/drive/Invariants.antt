@@ -15,7 +15,7 @@ invariant-turns g l = record {
   at : IsAt l.core (map event_meant l.kept.items);
   tables : l.core.tables ≡ l.fn.core.tables;
   drawn : IsBehindWords l.seed (length (map event_meant l.kept.items)) l.generator;
-  behind : IsOneBehind l.seed (fixed_of l.fn.core.tables) (map event_meant l.kept.items) l.list.events;
+  behind : IsOneBehind l.seed (fixed_of l.fn.core.tables) (map event_meant l.kept.items) l.list.events (map event_meant l.news.items);
   driving : IsDriving (fixed_of l.fn.core.tables) l.seed (map event_meant l.kept.items)
       (outside l.fn.logs.items (g.O.Sink.taken l.fn.out) (g.O.Sink.faults l.fn.out)) (outside l.logs.items (g.O.Sink.taken l.out) (g.O.Sink.faults l.out));
   once : EndsAtFault (Unit {0}) (g.O.Sink.faults l.fn.out) (g.O.Sink.late l.fn.out) (g.O.Sink.faults l.out) (g.O.Sink.late l.out);

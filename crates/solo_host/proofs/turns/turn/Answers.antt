@@ -1,83 +1,120 @@
-use Rattle.std.proofs.Common.{List, length, map, refl, sym, subst}
+use Rattle.std.proofs.Common.{List, length, map, refl, sym, subst, ap, ◌∙◌}
 use Rattle.std.proofs.KnownBytes.{Appends-nil}
+use Rattle.std.specs.Prelude.{MatchOption}
+use Rattle.protocol.specs.Runs.{reached}
+use Rattle.run_effects.specs.RunsOf.{RunsOf}
+use Rattle.run_effects.specs.declared.stops.Stop.TheVariants as stop
+use Rattle.snap_core.specs.Cores.{CoreState, IsAt, state_at}
 use Rattle.snap_core.specs.core_events.declared.events.Event as code
 use Rattle.snap_core.specs.core_events.Meant.{event_meant}
 use Rattle.snap_core.specs.snap_hand.Tables.{fixed_of}
-use Rattle.solo_host.specs.Outside.{outside}
-use Rattle.solo_host.specs.Turns.{HasStopped}
-use Rattle.run_effects.specs.declared.stops.Stop.TheVariants as stop
-use Rattle.solo_host.proofs.Picking.{picked_allowed}
-use Rattle.solo_host.proofs.Turning.{idle, given_up, not_stepped, kept_more, gone_on}
+use Rattle.solo_host.specs.Outside.{IsPicked, outside}
+use Rattle.solo_host.specs.Turns.{HasGoneOn, HasStopped, IsKeptFor, IsOneBehind}
+use Rattle.solo_host.proofs.KeptList.{none_foreseen, one_behind}
+use Rattle.solo_host.proofs.Trying.{none_asked}
+use Rattle.solo_host.proofs.Turning.{drawn_if, ended, gone_on, kept_more}
 use Rattle.solo_host.proofs.Words.{drawn_on}
-use Rattle.snap_outside.proofs.AtFault.{surely}
 use Rattle.solo_host.proofs.turns.turn.Goals as goal
 
-pub returns-in_default-picked-clause-goes : goal.returns-in_default-picked-clause-goes
-returns-in_default-picked-clause-goes g c =
+pub returns-in-Quiet-clause-goes : goal.returns-in-Quiet-clause-goes
+returns-in-Quiet-clause-goes g c =
+    let es = map event_meant c.args.kept.now.items in
+    let now = outside c.args.logs.now.items (g.O.Sink.taken c.args.out.now) (g.O.Sink.faults c.args.out.now) in
+    let next = c.in-Quiet.ensures.next es c.requires.at (c.draw-word.ensures.word c.args.seed (length es) c.requires.drawn) c.in-Ok.ensures in
+    subst (λ (ks : List code.Event). HasStopped c.args.seed c.args.core.now c.take_next.new.core es (map event_meant ks) stop.Quiet now now) (sym c.reserve.ensures.items)
+    (ended c.args.seed c.args.core.now c.take_next.new.core es stop.Quiet now next.1 c.requires.at c.requires.open (λ l. refl) (next.0, Appends-nil (g.O.Sink.taken c.args.out.now)))
+
+pub returns-in-Memory-clause-goes : goal.returns-in-Memory-clause-goes
+returns-in-Memory-clause-goes g c =
+    let es = map event_meant c.args.kept.now.items in
+    let now = outside c.args.logs.now.items (g.O.Sink.taken c.args.out.now) (g.O.Sink.faults c.args.out.now) in
+    let next = c.in-Memory.ensures.next es c.requires.at (c.draw-word.ensures.word c.args.seed (length es) c.requires.drawn) c.in-Ok.ensures in
+    subst (λ (ks : List code.Event). HasStopped c.args.seed c.args.core.now c.take_next.new.core es (map event_meant ks) stop.Memory now now) (sym c.reserve.ensures.items)
+    (ended c.args.seed c.args.core.now c.take_next.new.core es stop.Memory now next c.requires.at c.requires.open (λ l. refl) (Appends-nil (g.O.Sink.taken c.args.out.now)))
+
+pub returns-in-Taken-clause-goes : goal.returns-in-Taken-clause-goes
+returns-in-Taken-clause-goes g c =
     let w = fixed_of c.args.core.now.tables in
     let es = map event_meant c.args.kept.now.items in
-    idle c.args.seed c.args.core.now es stop.Quiet (outside c.args.logs.now.items (g.O.Sink.taken c.args.out.now) (g.O.Sink.faults c.args.out.now)) c.requires.at c.requires.open (λ l. refl)
-    (c.in_default-picked.ensures.none refl es c.requires.at c.in-Ok.ensures, Appends-nil (g.O.Sink.taken c.args.out.now))
+    let now = outside c.args.logs.now.items (g.O.Sink.taken c.args.out.now) (g.O.Sink.faults c.args.out.now) in
+    let next = c.in-Taken.ensures.next es c.requires.at (c.draw-word.ensures.word c.args.seed (length es) c.requires.drawn) c.in-Ok.ensures in
+    gone_on c.args.seed c.args.core.now c.take_next.new.core es (map event_meant c.keep.new.kept.items) (event_meant c.in-Taken.e) now now
+    (kept_more c.args.kept.now.items c.reserve.new.self.items c.keep.new.kept.items c.in-Taken.e c.reserve.ensures.items c.keep.ensures)
+    next.0 next.1 (none_asked w es (event_meant c.in-Taken.e) now next.2 c.requires.open)
 
-pub before-requires-clause-allowed : goal.before-requires-clause-allowed
-before-requires-clause-allowed g c =
+pub returns-in-Taken-clause-behind : goal.returns-in-Taken-clause-behind
+returns-in-Taken-clause-behind g c _ =
     let w = fixed_of c.args.core.now.tables in
     let es = map event_meant c.args.kept.now.items in
-    let picked = c.in-Some.ensures.some es c.requires.at c.requires.drawn c.in-Ok.ensures in
-    (es, c.requires.at, picked_allowed w c.args.seed es (event_meant c.in-Some.e) picked)
+    let e = event_meant c.in-Taken.e in
+    let next = c.in-Taken.ensures.next es c.requires.at (c.draw-word.ensures.word c.args.seed (length es) c.requires.drawn) c.in-Ok.ensures in
+    one_behind c.args.seed w es (map event_meant c.keep.new.kept.items) c.take_next.new.list.events (map event_meant c.freshen.new.news.items) e
+    (kept_more c.args.kept.now.items c.reserve.new.self.items c.keep.new.kept.items c.in-Taken.e c.reserve.ensures.items c.keep.ensures)
+    (c.in-Taken.ensures.kept es c.requires.at c.in-Ok.ensures) (none_foreseen w e (reached w es) (map event_meant c.freshen.new.news.items) next.2)
 
-pub returns-in-Err-clause-goes : goal.returns-in-Err-clause-goes
-returns-in-Err-clause-goes g c =
-    let w = fixed_of c.args.core.now.tables in
+pub returns-in-Taken-clause-drawn : goal.returns-in-Taken-clause-drawn
+returns-in-Taken-clause-drawn g c _ =
     let es = map event_meant c.args.kept.now.items in
-    let picked = c.in-Some.ensures.some es c.requires.at c.requires.drawn c.in-Ok.ensures in
-    let old = outside c.args.logs.now.items (g.O.Sink.taken c.args.out.now) (g.O.Sink.faults c.args.out.now) in
-    let new = outside c.before-2.new.logs.items (g.O.Sink.taken c.before-2.new.out) (g.O.Sink.faults c.before-2.new.out) in
-    subst (λ (ks : List code.Event). HasStopped c.args.seed c.args.core.now c.args.core.now es (map event_meant ks) c.in-Err.stop old new) (sym c.reserve.ensures.items)
-    (given_up c.args.seed c.args.core.now es (event_meant c.in-Some.e) c.in-Err.stop old new c.requires.at picked (c.in-Err.ensures.outer es c.requires.at))
+    drawn_on c.args.seed es (map event_meant c.keep.new.kept.items) (event_meant c.in-Taken.e) c.draw-word.new.generator
+    (kept_more c.args.kept.now.items c.reserve.new.self.items c.keep.new.kept.items c.in-Taken.e c.reserve.ensures.items c.keep.ensures)
+    (c.draw-word.ensures.drawn c.args.seed (length es) c.requires.drawn)
 
-pub returns-in-Err-clause-once : goal.returns-in-Err-clause-once
-returns-in-Err-clause-once g c = surely _ _ _ _ (λ no is. no (cc is)) c.in-Err.ensures.once
+-- ---- an event that waits
 
-pub take_step-requires : goal.take_step-requires
-take_step-requires g c =
-    let w = fixed_of c.args.core.now.tables in
+pub take_waiting-requires-clause-runs : goal.take_waiting-requires-clause-runs
+take_waiting-requires-clause-runs g c = subst (λ t. RunsOf (fixed_of t)) (sym c.in-Asks.ensures.tables) c.requires.runs
+
+pub take_waiting-requires-clause-at : goal.take_waiting-requires-clause-at
+take_waiting-requires-clause-at g c =
     let es = map event_meant c.args.kept.now.items in
-    let picked = c.in-Some.ensures.some es c.requires.at c.requires.drawn c.in-Ok.ensures in
-    (es, c.requires.at, picked_allowed w c.args.seed es (event_meant c.in-Some.e) picked)
+    let next = c.in-Asks.ensures.next es c.requires.at (c.draw-word.ensures.word c.args.seed (length es) c.requires.drawn) c.in-Ok.ensures in
+    subst (λ (ks : List code.Event). IsAt c.take_next.new.core (map event_meant ks)) (sym c.reserve.ensures.items) (subst (λ z. IsAt z es) (sym next.1) c.requires.at)
 
-pub returns-in-Err-take_step-clause-goes : goal.returns-in-Err-take_step-clause-goes
-returns-in-Err-take_step-clause-goes g c =
+pub take_waiting-requires-clause-picked : goal.take_waiting-requires-clause-picked
+take_waiting-requires-clause-picked g c =
     let es = map event_meant c.args.kept.now.items in
-    let old = outside c.args.logs.now.items (g.O.Sink.taken c.args.out.now) (g.O.Sink.faults c.args.out.now) in
-    let new = outside c.before-2.new.logs.items (g.O.Sink.taken c.before-2.new.out) (g.O.Sink.faults c.before-2.new.out) in
-    subst (λ (ks : List code.Event). HasStopped c.args.seed c.args.core.now c.take_step.new.core es (map event_meant ks) stop.Memory old new) (sym c.reserve.ensures.items)
-    (not_stepped c.args.seed c.args.core.now c.take_step.new.core es (event_meant c.in-Some.e) old new c.in-Err-take_step.ensures.unchanged c.requires.at c.in-Err-take_step.ensures.no
-    (c.in-Ok-before.ensures.outer es c.requires.at))
+    let next = c.in-Asks.ensures.next es c.requires.at (c.draw-word.ensures.word c.args.seed (length es) c.requires.drawn) c.in-Ok.ensures in (
+      c.args.seed,
+      subst (λ (ks : List code.Event). IsPicked (fixed_of c.take_next.new.core.tables) c.args.seed (map event_meant ks) (event_meant c.in-Asks.e)) (sym c.reserve.ensures.items)
+          (subst (λ t. IsPicked (fixed_of t) c.args.seed es (event_meant c.in-Asks.e)) (sym c.in-Asks.ensures.tables) next.0),
+    )
 
-pub returns-in-Err-take_step-clause-once : goal.returns-in-Err-take_step-clause-once
-returns-in-Err-take_step-clause-once g c = surely _ _ _ _ (λ no is. cc is) c.in-Ok-before.ensures.once
+pub take_waiting-requires-clause-logs : goal.take_waiting-requires-clause-logs
+take_waiting-requires-clause-logs g c = c.requires.logs ∙ ap (λ t. t.work.logs) (sym c.in-Asks.ensures.tables)
 
-pub returns-clause-once : goal.returns-clause-once
-returns-clause-once g c = surely _ _ _ _ (λ no is. cc is) c.in-Ok-before.ensures.once
-
-pub returns-clause-goes : goal.returns-clause-goes
-returns-clause-goes g c =
-    let w = fixed_of c.args.core.now.tables in
+pub returns-in-Asks-clause-goes : goal.returns-in-Asks-clause-goes
+returns-in-Asks-clause-goes g c =
     let es = map event_meant c.args.kept.now.items in
-    let picked = c.in-Some.ensures.some es c.requires.at c.requires.drawn c.in-Ok.ensures in
-    let old = outside c.args.logs.now.items (g.O.Sink.taken c.args.out.now) (g.O.Sink.faults c.args.out.now) in
-    let new = outside c.before-2.new.logs.items (g.O.Sink.taken c.before-2.new.out) (g.O.Sink.faults c.before-2.new.out) in
-    gone_on c.args.seed c.args.core.now c.take_step.new.core es (map event_meant c.keep.new.kept.items) (event_meant c.in-Some.e) old new
-    (kept_more c.args.kept.now.items c.reserve.new.self.items c.keep.new.kept.items c.in-Some.e c.reserve.ensures.items c.keep.ensures)
-    picked (c.in-Ok-take_step.ensures.ok es c.requires.at).1 (c.in-Ok-before.ensures.outer es c.requires.at)
+    let seed = c.args.seed in
+    let e = event_meant c.in-Asks.e in
+    let r = c.take_waiting.result in
+    let now = c.take_waiting.new.core in
+    let kept = map event_meant c.take_waiting.new.kept.items in
+    let before = outside c.args.logs.now.items (g.O.Sink.taken c.args.out.now) (g.O.Sink.faults c.args.out.now) in
+    let after = outside c.take_waiting.new.logs.items (g.O.Sink.taken c.take_waiting.new.out) (g.O.Sink.faults c.take_waiting.new.out) in
+    let next = c.in-Asks.ensures.next es c.requires.at (c.draw-word.ensures.word seed (length es) c.requires.drawn) c.in-Ok.ensures in
+    subst (λ (z : CoreState). IsPicked (fixed_of z.tables) seed es e → MatchOption r (HasGoneOn seed z now es kept before after) (λ why. HasStopped seed z now es kept why before after)) next.1
+    (subst (λ (ks : List code.Event). IsPicked (fixed_of c.take_next.new.core.tables) seed (map event_meant ks) e
+    → MatchOption r (HasGoneOn seed c.take_next.new.core now (map event_meant ks) kept before after) (λ why. HasStopped seed c.take_next.new.core now (map event_meant ks) kept why before after)) c.reserve.ensures.items
+    (c.take_waiting.ensures.goes seed)) next.0
 
-pub returns-clause-list : goal.returns-clause-list
-returns-clause-list g c _ = c.in-Some.ensures.kept (map event_meant c.args.kept.now.items) c.requires.at c.in-Ok.ensures
-
-pub returns-clause-drawn : goal.returns-clause-drawn
-returns-clause-drawn g c _ =
+pub returns-in-Asks-clause-behind : goal.returns-in-Asks-clause-behind
+returns-in-Asks-clause-behind g c none =
     let es = map event_meant c.args.kept.now.items in
-    drawn_on c.args.seed es (map event_meant c.keep.new.kept.items) (event_meant c.in-Some.e) c.picked.new.generator
-    (kept_more c.args.kept.now.items c.reserve.new.self.items c.keep.new.kept.items c.in-Some.e c.reserve.ensures.items c.keep.ensures)
-    (c.in-Some.ensures.drawn (length es) c.requires.drawn)
+    let seed = c.args.seed in
+    let list = c.take_next.new.list.events in
+    let kept = map event_meant c.take_waiting.new.kept.items in
+    let news = map event_meant c.take_waiting.new.news.items in
+    let next = c.in-Asks.ensures.next es c.requires.at (c.draw-word.ensures.word seed (length es) c.requires.drawn) c.in-Ok.ensures in
+    subst (λ (z : CoreState). IsKeptFor seed (fixed_of z.tables) (state_at z es) list → IsOneBehind seed (fixed_of z.tables) kept list news) next.1
+    (subst (λ (ks : List code.Event). IsKeptFor seed (fixed_of c.take_next.new.core.tables) (state_at c.take_next.new.core (map event_meant ks)) list
+    → IsOneBehind seed (fixed_of c.take_next.new.core.tables) kept list news) c.reserve.ensures.items
+    (c.take_waiting.ensures.behind none seed list)) (c.in-Asks.ensures.kept es c.requires.at c.in-Ok.ensures)
+
+pub returns-in-Asks-clause-drawn : goal.returns-in-Asks-clause-drawn
+returns-in-Asks-clause-drawn g c =
+    let es = map event_meant c.args.kept.now.items in
+    drawn_if c.take_waiting.result c.args.seed c.args.core.now c.take_waiting.new.core es (map event_meant c.take_waiting.new.kept.items) c.draw-word.new.generator
+    (outside c.args.logs.now.items (g.O.Sink.taken c.args.out.now) (g.O.Sink.faults c.args.out.now))
+    (outside c.take_waiting.new.logs.items (g.O.Sink.taken c.take_waiting.new.out) (g.O.Sink.faults c.take_waiting.new.out))
+    (returns-in-Asks-clause-goes g c) (c.draw-word.ensures.drawn c.args.seed (length es) c.requires.drawn)
