@@ -7,9 +7,11 @@ pub mod Ordered
 pub mod PartsTold
 pub mod Reached
 pub mod Refused
+pub mod Remaining
 pub mod Renewed
 pub mod Revised
 pub mod Sound
+pub mod Standing
 pub mod TouchedActs
 pub mod TouchedBatches
 pub mod TouchedEvents

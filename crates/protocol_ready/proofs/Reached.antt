@@ -3,60 +3,28 @@ use Rattle.std.specs.Prelude.{◌≡◌, refl, ℕ, ◌==◌, false}
 use Rattle.std.proofs.lemmas.Bool.{true≢false, and_right, or_from}
 use Rattle.protocol.specs.Fixed.{Fixed}
 use Rattle.protocol.specs.Parts.{Machine}
-use Rattle.protocol.specs.Events.{Event, Submit, Pass, Form, Admit, Arrive, Ask, Take, Run, Send, End, Close, Complete, Sync, Note, Commit, Settle, Abort, Rollback, DropSub, DropControl, Prepare, Vouch, Decide, Seal, Finish, Trim}
+use Rattle.protocol.specs.Events.{Event, Submit, Pass, Form, Admit, Arrive, Ask, End, Complete, Sync, Note, Commit, Settle, Abort, Rollback, DropSub, Prepare, Vouch, Decide, Seal, Finish}
 use Rattle.protocol.specs.Effects.{after}
 use Rattle.protocol_ready.specs.Touched
 use Rattle.protocol_ready.specs.Touched.{is_abort}
-use Rattle.protocol_ready.specs.Refusing.{actor_of_event, tid_of_event, bid_of_event, is_at, is_on_ring, is_form, spreads, is_on_log, is_on_batches, is_settle}
+use Rattle.protocol_ready.specs.Refusing.{reached_by, rolled_back_by, voted_by, bid_of_event, is_at, is_on_ring, spreads, is_on_log, is_on_batches, is_settle}
 
 -- ---- by the actor
 
-pub boxes : (e : Event) (a : ℕ) → is_at a (actor_of_event e) ≡ false → Touched.changes_boxes e a ≡ false
-boxes (Rollback b) a h = h
-boxes (Finish u b) a h = h
-boxes _ a h = refl
-
-pub inbox : (e : Event) (t a : ℕ) → is_at a (actor_of_event e) ≡ false → Touched.changes_inbox e t a ≡ false
-inbox (Ask u b) t a h = rw h refl
-inbox (Take u b) t a h = rw h refl
-inbox (Run u b) t a h = rw h refl
-inbox _ t a h = refl
-
-pub outbox : (e : Event) (t a : ℕ) → is_at a (actor_of_event e) ≡ false → Touched.changes_outbox e t a ≡ false
-outbox (Run u b) t a h = rw h refl
-outbox (Send u b) t a h = rw h refl
-outbox (End u b) t a h = rw h refl
-outbox _ t a h = refl
-
-pub entries : (e : Event) (a : ℕ) → is_at a (actor_of_event e) ≡ false → Touched.changes_entries e a ≡ false
-entries (Arrive k b) a h = h
-entries (Ask t b) a h = h
-entries (Rollback b) a h = h
-entries (Finish t b) a h = h
-entries (Trim k b) a h = h
-entries _ a h = refl
-
-pub dones : {C : Type 0} (w : Fixed C) (e : Event) (s : Machine C) (t a : ℕ) → is_at a (actor_of_event e) ≡ false → Touched.changes_done w e s t a ≡ false
-dones w (Run u b) s t a h = rw h refl
-dones w (Close u b) s t a h = rw h refl
-dones w _ s t a h = refl
-
-pub marks : {C : Type 0} (w : Fixed C) (e : Event) (s : Machine C) (a : ℕ) → is_at a (actor_of_event e) ≡ false → Touched.changes_marks w e s a ≡ false
-marks w (Run u b) s a h = rw h refl
-marks w (Close u b) s a h = h
-marks w (Complete k b) s a h = h
-marks w _ s a h = refl
-
-pub epochs : (e : Event) (a : ℕ) → is_at a (actor_of_event e) ≡ false → Touched.changes_epoch e a ≡ false
+pub epochs : (e : Event) (a : ℕ) → is_at a (rolled_back_by e) ≡ false → Touched.changes_epoch e a ≡ false
 epochs (Rollback b) a h = h
 epochs _ a h = refl
 
-pub tails : (e : Event) (a : ℕ) → is_at a (actor_of_event e) ≡ false → Touched.changes_tail e a ≡ false
+pub reached_epochs : (e : Event) (a : ℕ) → is_at a (reached_by e) ≡ false → Touched.changes_epoch e a ≡ false
+reached_epochs (Rollback b) a h = h
+reached_epochs _ a h = refl
+
+pub tails : (e : Event) (a : ℕ) → is_at a (reached_by e) ≡ false → Touched.changes_tail e a ≡ false
 tails (Arrive k b) a h = h
 tails (Rollback b) a h = h
 tails _ a h = refl
 
-pub sub : (e : Event) (k a : ℕ) → is_at a (actor_of_event e) ≡ false → Touched.changes_sub e k a ≡ false
+pub sub : (e : Event) (k a : ℕ) → is_at a (reached_by e) ≡ false → Touched.changes_sub e k a ≡ false
 sub (Arrive j b) k a h = and_right (j == k) (b == a) h
 sub (DropSub j b) k a h = and_right (j == k) (b == a) h
 sub _ k a h = refl
@@ -103,27 +71,7 @@ log w _ l h = refl
 
 -- ---- by the transaction
 
-pub control : {C : Type 0} (w : Fixed C) (e : Event) (s : Machine C) (t : ℕ) → is_form e ≡ false → is_at t (tid_of_event e) ≡ false → Touched.changes_control w e s t ≡ false
-control w (Form k) s t h g = absurd (true≢false h)
-control w (Admit u) s t h g = g
-control w (Ask u a) s t h g = g
-control w (Take u a) s t h g = g
-control w (Send u a) s t h g = g
-control w (DropControl u) s t h g = g
-control w _ s t h g = refl
-
-pub result : {C : Type 0} (w : Fixed C) (e : Event) (s : Machine C) (t : ℕ) → is_form e ≡ false → is_at t (tid_of_event e) ≡ false → Touched.changes_result w e s t ≡ false
-result w (Form k) s t h g = absurd (true≢false h)
-result w (End u a) s t h g = g
-result w _ s t h g = refl
-
-pub dooms : {C : Type 0} (e : Event) (s : Machine C) (t : ℕ) → spreads e ≡ false → is_at t (tid_of_event e) ≡ false → Touched.changes_doom e s t ≡ false
-dooms (Admit u) s t h g = or_from (u == t) false g refl
-dooms (Arrive k a) s t h g = absurd (true≢false h)
-dooms (Ask u a) s t h g = absurd (true≢false h)
-dooms _ s t h g = refl
-
-pub acts : {C : Type 0} (e : Event) (s : Machine C) (t : ℕ) → spreads e ≡ false → is_at t (tid_of_event e) ≡ false → Touched.changes_act e s t ≡ false
+pub acts : {C : Type 0} (e : Event) (s : Machine C) (t : ℕ) → spreads e ≡ false → is_at t (voted_by e) ≡ false → Touched.changes_act e s t ≡ false
 acts (Admit u) s t h g = or_from (u == t) false g refl
 acts (Arrive k a) s t h g = absurd (true≢false h)
 acts (Ask u a) s t h g = absurd (true≢false h)
@@ -132,23 +80,23 @@ acts (Decide u) s t h g = or_from (u == t) false g refl
 acts (Seal u) s t h g = or_from (u == t) false g refl
 acts _ s t h g = refl
 
-pub prepared : (e : Event) (t a : ℕ) → is_at t (tid_of_event e) ≡ false → Touched.changes_prepared e t a ≡ false
+pub prepared : (e : Event) (t a : ℕ) → is_at t (voted_by e) ≡ false → Touched.changes_prepared e t a ≡ false
 prepared (Prepare u b) t a h = and_right (b == a) (u == t) h
 prepared _ t a h = refl
 
-pub vouched : (e : Event) (t a : ℕ) → is_at t (tid_of_event e) ≡ false → Touched.changes_vouched e t a ≡ false
+pub vouched : (e : Event) (t a : ℕ) → is_at t (voted_by e) ≡ false → Touched.changes_vouched e t a ≡ false
 vouched (Vouch u b) t a h = and_right (b == a) (u == t) h
 vouched _ t a h = refl
 
-pub finished : (e : Event) (t a : ℕ) → is_at t (tid_of_event e) ≡ false → Touched.changes_finished e t a ≡ false
+pub finished : (e : Event) (t a : ℕ) → is_at t (voted_by e) ≡ false → Touched.changes_finished e t a ≡ false
 finished (Finish u b) t a h = and_right (b == a) (u == t) h
 finished _ t a h = refl
 
-pub votes : (e : Event) (t : ℕ) → is_at t (tid_of_event e) ≡ false → Touched.changes_votes e t ≡ false
+pub votes : (e : Event) (t : ℕ) → is_at t (voted_by e) ≡ false → Touched.changes_votes e t ≡ false
 votes (Vouch u b) t h = h
 votes _ t h = refl
 
-pub left : (e : Event) (t : ℕ) → is_at t (tid_of_event e) ≡ false → Touched.changes_left e t ≡ false
+pub left : (e : Event) (t : ℕ) → is_at t (voted_by e) ≡ false → Touched.changes_left e t ≡ false
 left (Finish u b) t h = h
 left _ t h = refl
 

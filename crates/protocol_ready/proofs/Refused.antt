@@ -7,21 +7,24 @@ use Rattle.protocol.specs.Fixed.{Fixed}
 use Rattle.protocol.specs.Records.{LogRecord, is_info, is_complete, is_commit, is_prepare, is_act_commit}
 use Rattle.protocol.specs.Parts.{Who, OfBatch, OfAct, Status, Live, Doomed, Decided, Sealed, Act, Joined, Batch, ControlMessage, Log, Machine}
 use Rattle.protocol.specs.Events.{Event, Submit, Pass, Form, Admit, Arrive, Ask, Take, Run, Send, End, Close, Complete, Sync, Note, Commit, Settle, Abort, Rollback, DropSub, DropControl, Prepare, Vouch, Decide, Seal, Finish, Reply, Trim}
-use Rattle.protocol.specs.Words.{is_empty, holds, count, is_value, is_aborted, is_doomed, is_decided, act_of, joined_of, is_live_act, is_finished_everywhere, is_live_batch, is_next_to_commit, is_durable, control_of}
+use Rattle.protocol.specs.Words.{is_empty, holds, count, is_value, is_aborted, is_doomed, is_decided, act_of, joined_of, is_live_act, is_finished_everywhere, is_live_batch, is_next_to_commit, is_durable, control_of, is_going, is_ended}
 use Rattle.protocol.specs.Verdicts.{verdict}
-use Rattle.protocol.specs.Conditions.{AllTrue, IsAllowed, conditions, is_given_up}
+use Rattle.protocol.specs.Conditions.{AllTrue, IsAllowed, conditions, is_given_up, epoch}
 use Rattle.protocol.specs.Contents.{Content, Statuses, FinishedMarks, AbortedMarks, TrimmedMarks, IsSame, is_changed}
 use Rattle.protocol.specs.Effects.{after}
 use Rattle.protocol.specs.Runs.{EachAllowed, state_after, reached, opening}
 use Rattle.protocol_verdicts.specs.Evidence.{VerdictsStay}
 use Rattle.snap_base.specs.declared.verdicts.Verdict.{Verdict}
+use Rattle.protocol_laws.proofs.first.Lists.{some_held}
 use Rattle.protocol_laws.specs.OneWay.{EachBecame, ActWent, LogGrew, StatusWent, WentOn}
 use Rattle.protocol_ready.specs.Touched.{IsSound, is_abort, reads_changed, changes_note, changes_trim, changes_replied}
-use Rattle.protocol_ready.specs.Refusing.{actor_of_event, tid_of_event, bid_of_event, is_at, is_on_ring, is_form, spreads, may_free, is_on_batches, is_settle, is_in_reach, is_reply}
+use Rattle.protocol_ready.specs.Refusing.{taken_by, handed_on_by, left_by, done_by, voted_by, bid_of_event, reached_by, cut_by, rolled_back_by, is_at, is_on_ring, spreads, may_free, is_on_batches, is_settle, is_in_reach, is_reply}
 use Rattle.protocol_ready.proofs.Cited.{Framed}
 use Rattle.protocol_ready.proofs.Reached as reach
 use Rattle.protocol_ready.proofs.TouchedEvents.{untouched}
-use Rattle.protocol_ready.proofs.TouchedParts.{control_stays}
+use Rattle.protocol_ready.proofs.Remaining.{both_apart, control_went, inbox_went, outbox_went, new_went, not_doomed_went, result_went}
+use Rattle.protocol_ready.proofs.Standing.{entry_went, clear_went, turn_went, undone_went, lacking_went, ahead_went, all_done_went}
+use Rattle.protocol_ready.proofs.TouchedParts.{epoch_stays}
 use Rattle.protocol_ready.proofs.TouchedActs.{act_test, plain, vouch_bears}
 use Rattle.protocol_ready.proofs.TouchedBatches.{open_test, note_test, trim_test, commits_test, pacts_test, noted_test, replied_stays, cascades_stay}
 use Rattle.protocol_ready.proofs.TouchedVerdicts.{next_stays}
@@ -119,21 +122,11 @@ given_up_went w e s (Some m) z went h = by m.who h
 -- ---- the event itself is another one
 
 other_note : (e : Event) (k a : ℕ) → (Note k a ≡ e → ⊥) → changes_note e k a ≡ false
-other_note (Note j b) k a n = by (j == k) refl (b == a) refl
-  where
-    by : (x : Bool) → (j == k) ≡ x → (y : Bool) → (b == a) ≡ y → (x && y) ≡ false
-    by true p true q = absurd (n (sym (ap (λ m. Note m b) (eqb-true j k p) ∙ ap (Note k) (eqb-true b a q))))
-    by true p false q = refl
-    by false p y q = refl
+other_note (Note j b) k a n = both_apart Note j k b a n
 other_note _ k a n = refl
 
 other_trim : (e : Event) (k a : ℕ) → (Trim k a ≡ e → ⊥) → changes_trim e k a ≡ false
-other_trim (Trim j b) k a n = by (j == k) refl (b == a) refl
-  where
-    by : (x : Bool) → (j == k) ≡ x → (y : Bool) → (b == a) ≡ y → (x && y) ≡ false
-    by true p true q = absurd (n (sym (ap (λ m. Trim m b) (eqb-true j k p) ∙ ap (Trim k) (eqb-true b a q))))
-    by true p false q = refl
-    by false p y q = refl
+other_trim (Trim j b) k a n = both_apart Trim j k b a n
 other_trim _ k a n = refl
 
 other_reply : (e : Event) (m : ℕ) → (Reply m ≡ e → ⊥) → changes_replied e m ≡ false
@@ -173,26 +166,30 @@ keeps w e s (Admit t) framed ok went told al z h apart allowed =
     let o = or_parts (is_on_ring e) (may_free e) h in
     rw (reach.ring w e s z o.0, acts_counted w e s (framed e s) z o.0 o.1) allowed
 keeps w e s (Arrive k a) framed ok went told al z h apart allowed =
-    let o = or_parts (is_at a (actor_of_event e)) (is_at k (bid_of_event e)) h in
-    unread w e s (Arrive k a) framed ok al z (or_from _ _ (or_from _ _ (reach.subs e k o.1) (reach.sub e k a o.0)) (or_from _ _ (reach.epochs e a o.0) (reach.tails e a o.0))) allowed
+    let o = or_parts (is_at a (reached_by e)) (is_at k (bid_of_event e)) h in
+    unread w e s (Arrive k a) framed ok al z (or_from _ _ (or_from _ _ (reach.subs e k o.1) (reach.sub e k a o.0)) (or_from _ _ (reach.reached_epochs e a o.0) (reach.tails e a o.0))) allowed
 keeps w e s (Ask t a) framed ok went told al z h apart allowed =
-    let o = or_parts (is_form e || spreads e) (is_at a (actor_of_event e) || is_at t (tid_of_event e)) h in
-    let p = or_parts (is_form e) (spreads e) o.0 in
-    let q = or_parts (is_at a (actor_of_event e)) (is_at t (tid_of_event e)) o.1 in
-    unread w e s (Ask t a) framed ok al z (or_from _ _ (reach.control w e s t p.0 q.1) (or_from _ _ (reach.dooms e s t p.1 q.1) (or_from _ _ (reach.entries e a q.0) (reach.epochs e a q.0)))) allowed
+    let o = or_parts (spreads e) (is_at a (rolled_back_by e) || is_at t (taken_by e)) h in
+    let q = or_parts (is_at a (rolled_back_by e)) (is_at t (taken_by e)) o.1 in
+    rw (control_went w e s t q.1 (some_held _ _ allowed.0), cascades_stay w e s z, epoch_stays w e s a (λ n. n == epoch s.book) (reach.epochs e a q.0))
+    (allowed.0, (not_doomed_went w e s t z o.0 allowed.1.0, (new_went w e s t a o.0 q.0 allowed.1.1.0, allowed.1.1.1)))
 keeps w e s (Take t a) framed ok went told al z h apart allowed =
-    let o = or_parts (is_form e) (is_at a (actor_of_event e) || is_at t (tid_of_event e)) h in
-    let q = or_parts (is_at a (actor_of_event e)) (is_at t (tid_of_event e)) o.1 in
-    unread w e s (Take t a) framed ok al z (or_from _ _ (reach.control w e s t o.0 q.1) (reach.entries e a q.0)) allowed
+    let o = or_parts (is_at a (cut_by e)) (is_at t (taken_by e) || is_at t (left_by e)) h in
+    let q = or_parts (is_at t (taken_by e)) (is_at t (left_by e)) o.1 in
+    rw (control_went w e s t q.0 (some_held _ _ allowed.0)) (allowed.0, (entry_went w e s t a o.0 q.1 allowed.1.0, tt))
 keeps w e s (Run t a) framed ok went told al z h apart allowed =
-    unread w e s (Run t a) framed ok al z (or_from _ _ (or_from _ _ (reach.boxes e a h) (reach.inbox e t a h)) (or_from _ _ (reach.entries e a h) (reach.marks w e s a h))) allowed
-keeps w e s (Send t a) framed ok went told al z h apart allowed = unread w e s (Send t a) framed ok al z (or_from _ _ (reach.boxes e a h) (reach.outbox e t a h)) allowed
-keeps w e s (End t a) framed ok went told al z h apart allowed = unread w e s (End t a) framed ok al z (or_from _ _ (reach.boxes e a h) (reach.outbox e t a h)) allowed
+    let o = or_parts (is_at a (cut_by e)) (is_at t (left_by e)) h in
+    (inbox_went w e s t a o.0 o.1 apart allowed.0, (clear_went w e s t a o.0 o.1 allowed.1.0, (turn_went w e s t a o.0 o.1 allowed.1.1.0, tt)))
+keeps w e s (Send t a) framed ok went told al z h apart allowed =
+    let o = or_parts (is_at a (rolled_back_by e)) (is_at t (handed_on_by e)) h in
+    (outbox_went w e s t a (λ x. is_going x.next) o.0 o.1 allowed.0, tt)
+keeps w e s (End t a) framed ok went told al z h apart allowed =
+    let o = or_parts (is_at a (rolled_back_by e)) (is_at t (handed_on_by e)) h in
+    (outbox_went w e s t a (λ x. is_ended x.next) o.0 o.1 allowed.0, tt)
 keeps w e s (Close t a) framed ok went told al z h apart allowed =
-    let o = or_parts (is_form e) (is_at a (actor_of_event e) || is_at t (tid_of_event e)) h in
-    let q = or_parts (is_at a (actor_of_event e)) (is_at t (tid_of_event e)) o.1 in
-    unread w e s (Close t a) framed ok al z (or_from _ _ (reach.result w e s t o.0 q.1) (or_from _ _ (reach.entries e a q.0) (reach.dones w e s t a q.0))) allowed
-keeps w e s (Complete k a) framed ok went told al z h apart allowed = unread w e s (Complete k a) framed ok al z (or_from _ _ (reach.entries e a h) (reach.marks w e s a h)) allowed
+    let o = or_parts (is_at a (cut_by e)) (is_at t (done_by e)) h in
+    (result_went w e s t allowed.0, (undone_went w e s t a o.0 o.1 allowed.1.0, tt))
+keeps w e s (Complete k a) framed ok went told al z h apart allowed = (lacking_went w e s k a h apart allowed.0, (ahead_went w e s k a h allowed.0 allowed.1.0, (all_done_went w e s k a h allowed.1.1.0, tt)))
 keeps w e s (Sync l) framed ok went told al z h apart allowed = unread w e s (Sync l) framed ok al z (reach.log w e l h) allowed
 keeps w e s (Note k a) framed ok went told al z h apart allowed = (
   note_test w e s k a z (reach.stage e k h) (other_note e k a apart) ∙ allowed.0,
@@ -216,30 +213,29 @@ keeps w e s (Abort k) framed ok went told al z h apart allowed =
     unread w e s (Abort k) framed ok al z (or_from _ _ (reach.stage e k o.1) (or_from _ _ (reach.results e s k o.0) (reach.next e k o.0))) allowed
 keeps w e s (Rollback a) framed ok went told al z h apart allowed = unread w e s (Rollback a) framed ok al z (reach.epochs e a h) allowed
 keeps w e s (DropSub k a) framed ok went told al z h apart allowed =
-    let o = or_parts (is_at a (actor_of_event e)) (is_at k (bid_of_event e)) h in
+    let o = or_parts (is_at a (reached_by e)) (is_at k (bid_of_event e)) h in
     unread w e s (DropSub k a) framed ok al z (or_from _ _ (reach.subs e k o.1) (reach.sub e k a o.0)) allowed
 keeps w e s (DropControl t) framed ok went told al z h apart allowed =
-    let o = or_parts (is_form e) (is_at t (tid_of_event e)) h in
-    rw (control_stays w e s t (reach.control w e s t o.0 o.1)) (allowed.0, (given_up_went w e s (control_of t s.post.controls) z went.acts allowed.1.0, tt))
+    rw (control_went w e s t h allowed.0) (allowed.0, (given_up_went w e s (control_of t s.post.controls) z went.acts allowed.1.0, tt))
 keeps w e s (Prepare t a) framed ok went told al z h apart allowed =
-    let o = or_parts (spreads e) (is_at t (tid_of_event e)) h in
+    let o = or_parts (spreads e) (is_at t (voted_by e)) h in
     unread w e s (Prepare t a) framed ok al z (or_from _ _ (reach.acts e s t o.0 o.1) (reach.prepared e t a o.1)) allowed
 keeps w e s (Vouch t a) framed ok went told al z h apart allowed =
-    let o = or_parts (spreads e) (is_at t (tid_of_event e)) h in (
+    let o = or_parts (spreads e) (is_at t (voted_by e)) h in (
       act_test w e s t (λ x. is_live_act x && (not (is_doomed x.status) && holds (λ p. p.prepared && not p.vouched) (joined_of a x))) (λ x. refl) (vouch_bears e t a (or_from _ _ (reach.prepared e t a o.1) (reach.vouched e t a o.1)) (reach.left e t o.1)) z (reach.acts e s t o.0 o.1) ∙ allowed.0,
       (durable_went (is_prepare t a) s.logs (after w e s).logs (a % w.text.logs) went.logs allowed.1.0, tt),
     )
 keeps w e s (Decide t) framed ok went told al z h apart allowed =
-    let o = or_parts (spreads e || is_settle e) (is_at t (tid_of_event e)) h in
+    let o = or_parts (spreads e || is_settle e) (is_at t (voted_by e)) h in
     let p = or_parts (spreads e) (is_settle e) o.0 in
     unread w e s (Decide t) framed ok al z (or_from _ _ (reach.acts e s t p.0 o.1) (or_from _ _ (reach.votes e t o.1) (reach.settled e p.1))) allowed
 keeps w e s (Seal t) framed ok went told al z h apart allowed =
-    let o = or_parts (spreads e) (is_at t (tid_of_event e)) h in (
+    let o = or_parts (spreads e) (is_at t (voted_by e)) h in (
       act_test w e s t (λ x. is_decided x.status) (λ x. refl) (plain (λ x. is_decided x.status) e t (λ b f x. refl)) z (reach.acts e s t o.0 o.1) ∙ allowed.0,
       (durable_went (is_act_commit t) s.logs (after w e s).logs (t % w.text.logs) went.logs allowed.1.0, tt),
     )
 keeps w e s (Finish t a) framed ok went told al z h apart allowed =
-    let o = or_parts (spreads e) (is_at t (tid_of_event e)) h in
+    let o = or_parts (spreads e) (is_at t (voted_by e)) h in
     unread w e s (Finish t a) framed ok al z (or_from _ _ (reach.acts e s t o.0 o.1) (reach.finished e t a o.1)) allowed
 keeps w e s (Reply n) framed ok went told al z h apart allowed = reply_stays w e s n told apart allowed
 keeps w e s (Trim k a) framed ok went told al z h apart allowed = (trim_test w e s k a z (reach.stage e k h) (other_trim e k a apart) ∙ allowed.0, tt)

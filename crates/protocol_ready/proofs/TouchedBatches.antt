@@ -191,7 +191,7 @@ result_append : (t : ℕ) (new : Batch) (bs : List Batch) → names_pact t new �
 result_append t new [] h = rw h refl
 result_append t new (b ∷ bs) h = rw (result_append t new bs h) refl
 
-names_kept : (t u : ℕ) (r : TxResult) (ps : List Pact) → list_any (λ p. p.tid == t) (map (desk.with_result u r) ps) ≡ list_any (λ p. p.tid == t) ps
+pub names_kept : (t u : ℕ) (r : TxResult) (ps : List Pact) → list_any (λ p. p.tid == t) (map (desk.with_result u r) ps) ≡ list_any (λ p. p.tid == t) ps
 names_kept t u r [] = refl
 names_kept t u r (p ∷ ps) = rw (names_kept t u r ps) refl
 

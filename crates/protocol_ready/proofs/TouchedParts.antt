@@ -184,6 +184,21 @@ put_holds p s a b c h = by (b == a) refl
     by true e = set_holds p s.cells a b no_cell c (h e)
     by false e = ap (holds p) (get_other s.cells a b c (eqb-false b a e))
 
+-- a test that the new element passes where the one in its place did
+set_passes : {X : Type 0} (p : X → Bool) (xs : List X) (i j : ℕ) (d y : X) → (p (slice_index_or xs j d) ≡ true → p y ≡ true) → holds p (slice_get xs i) ≡ true → holds p (slice_get (slice_set xs j y) i) ≡ true
+set_passes p [] i j d y h k = k
+set_passes p (x ∷ xs) zero zero d y h k = h k
+set_passes p (x ∷ xs) (suc i) zero d y h k = k
+set_passes p (x ∷ xs) zero (suc j) d y h k = k
+set_passes p (x ∷ xs) (suc i) (suc j) d y h k = set_passes p xs i j d y h k
+
+pub put_went : {C : Type 0} (p : Cell C → Bool) (s : Machine C) (a b : ℕ) (c : Cell C) → ((b == a) ≡ true → p (cell_at s b) ≡ true → p c ≡ true) → holds p (slice_get s.cells a) ≡ true → holds p (slice_get (puts s b c) a) ≡ true
+put_went p s a b c h k = by (b == a) refl
+  where
+    by : (q : Bool) → (b == a) ≡ q → holds p (slice_get (puts s b c) a) ≡ true
+    by true e = set_passes p s.cells a b no_cell c (h e) k
+    by false e = ap (holds p) (get_other s.cells a b c (eqb-false b a e)) ∙ k
+
 rest : (x y : Bool) → (x && y) ≡ false → x ≡ true → y ≡ false
 rest true y h e = h
 rest false y h e = absurd (true≢false (sym e))
@@ -293,11 +308,11 @@ slot_done : (t u : ℕ) (ss : List Slot) → list_any (λ s. s.tid == t) (map (c
 slot_done t u [] = refl
 slot_done t u (s ∷ ss) = rw (slot_done t u ss) refl
 
-own_done : (t u : ℕ) (e : Entry) → is_entry_of t (cell.done_in u e) ≡ is_entry_of t e
+pub own_done : (t u : ℕ) (e : Entry) → is_entry_of t (cell.done_in u e) ≡ is_entry_of t e
 own_done t u (BatchEntry b) = slot_done t u b.slots
 own_done t u (ActEntry x) = refl
 
-own_complete : (t k : ℕ) (e : Entry) → is_entry_of t (cell.complete_in k e) ≡ is_entry_of t e
+pub own_complete : (t k : ℕ) (e : Entry) → is_entry_of t (cell.complete_in k e) ≡ is_entry_of t e
 own_complete t k (BatchEntry b) = refl
 own_complete t k (ActEntry x) = refl
 
@@ -311,11 +326,11 @@ slot_undone t u (s ∷ ss) h = rw (slot_undone t u ss h, one (s.tid == t) refl (
     one true e false f false = refl
     one false e y f d = refl
 
-undone_done : (t u : ℕ) (e : Entry) → (t == u) ≡ false → is_undone t (cell.done_in u e) ≡ is_undone t e
+pub undone_done : (t u : ℕ) (e : Entry) → (t == u) ≡ false → is_undone t (cell.done_in u e) ≡ is_undone t e
 undone_done t u (BatchEntry b) h = slot_undone t u b.slots h
 undone_done t u (ActEntry x) h = refl
 
-undone_complete : (t k : ℕ) (e : Entry) → is_undone t (cell.complete_in k e) ≡ is_undone t e
+pub undone_complete : (t k : ℕ) (e : Entry) → is_undone t (cell.complete_in k e) ≡ is_undone t e
 undone_complete t k (BatchEntry b) = refl
 undone_complete t k (ActEntry x) = refl
 

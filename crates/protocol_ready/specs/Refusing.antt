@@ -1,5 +1,5 @@
--- Which events an event may refuse that were allowed before it: the two share an actor, a transaction or a batch, or their
--- kinds are such. It is a test of the two alone, so it may hold of an event that stays allowed.
+-- Which events an event may refuse that were allowed before it: what the event takes, ends or cuts is what they ask for. It is a
+-- test of the two alone, so it may hold of an event that stays allowed.
 use Rattle.std.specs.Prelude.{◌≡◌, ℕ, ◌==◌, Bool, true, false, not, ◌&&◌, ◌||◌, Option, Some, None, List, Contains, ◌⊎◌}
 use Rattle.snap_base.specs.declared.transactions.State.{State}
 use Rattle.protocol.specs.Fixed.{Fixed}
@@ -12,38 +12,44 @@ use Rattle.protocol.specs.Runs.{reached}
 use Rattle.protocol.specs.Schedule.{AscendByRank, IsEnabled}
 use Rattle.protocol_ready.specs.Touched.{is_touched, is_abort}
 
--- ---- where an event is, and what kind it is of
+-- ---- which transaction, batch or actor an event changes, and how
 
--- the actor whose schedule, boxes or messages it changes
-abbrev pub actor_of_event : Event → Option ℕ
-actor_of_event (Arrive k a) = Some a
-actor_of_event (Ask t a) = Some a
-actor_of_event (Take t a) = Some a
-actor_of_event (Run t a) = Some a
-actor_of_event (Send t a) = Some a
-actor_of_event (End t a) = Some a
-actor_of_event (Close t a) = Some a
-actor_of_event (Complete k a) = Some a
-actor_of_event (Rollback a) = Some a
-actor_of_event (DropSub k a) = Some a
-actor_of_event (Finish t a) = Some a
-actor_of_event (Trim k a) = Some a
-actor_of_event _ = None
+-- the transaction whose control it takes out of the post
+abbrev pub taken_by : Event → Option ℕ
+taken_by (Ask t a) = Some t
+taken_by (Take t a) = Some t
+taken_by (DropControl t) = Some t
+taken_by _ = None
 
--- the transaction whose control, result or votes it changes
-abbrev pub tid_of_event : Event → Option ℕ
-tid_of_event (Admit t) = Some t
-tid_of_event (Ask t a) = Some t
-tid_of_event (Take t a) = Some t
-tid_of_event (Send t a) = Some t
-tid_of_event (End t a) = Some t
-tid_of_event (DropControl t) = Some t
-tid_of_event (Prepare t a) = Some t
-tid_of_event (Vouch t a) = Some t
-tid_of_event (Decide t) = Some t
-tid_of_event (Seal t) = Some t
-tid_of_event (Finish t a) = Some t
-tid_of_event _ = None
+-- the transaction whose outcome it takes, or whose place on an actor
+abbrev pub handed_on_by : Event → Option ℕ
+handed_on_by (Send t a) = Some t
+handed_on_by (End t a) = Some t
+handed_on_by (Finish t a) = Some t
+handed_on_by _ = None
+
+-- the ACT that leaves an actor
+abbrev pub left_by : Event → Option ℕ
+left_by (Finish t a) = Some t
+left_by _ = None
+
+-- the PACT that may be done on its actor then
+abbrev pub done_by : Event → Option ℕ
+done_by (Run t a) = Some t
+done_by (Close t a) = Some t
+done_by _ = None
+
+-- the ACT whose votes, result or status it changes
+abbrev pub voted_by : Event → Option ℕ
+voted_by (Admit t) = Some t
+voted_by (Ask t a) = Some t
+voted_by (End t a) = Some t
+voted_by (Prepare t a) = Some t
+voted_by (Vouch t a) = Some t
+voted_by (Decide t) = Some t
+voted_by (Seal t) = Some t
+voted_by (Finish t a) = Some t
+voted_by _ = None
 
 -- the batch that comes to be, or goes on
 abbrev pub bid_of_event : Event → Option ℕ
@@ -51,6 +57,24 @@ bid_of_event (Form k) = Some k
 bid_of_event (Commit k) = Some k
 bid_of_event (Settle k) = Some k
 bid_of_event _ = None
+
+-- the actor to which a sub-batch comes, or whose sub-batches are counted anew
+abbrev pub reached_by : Event → Option ℕ
+reached_by (Arrive k a) = Some a
+reached_by (DropSub k a) = Some a
+reached_by (Rollback a) = Some a
+reached_by _ = None
+
+-- the actor from whose schedule batches go
+abbrev pub cut_by : Event → Option ℕ
+cut_by (Rollback a) = Some a
+cut_by (Trim k a) = Some a
+cut_by _ = None
+
+-- the actor that is rolled back
+abbrev pub rolled_back_by : Event → Option ℕ
+rolled_back_by (Rollback a) = Some a
+rolled_back_by _ = None
 
 abbrev pub is_at : ℕ → Option ℕ → Bool
 is_at n None = false
@@ -63,10 +87,6 @@ is_on_ring (Pass c) = true
 is_on_ring (Form k) = true
 is_on_ring (Admit t) = true
 is_on_ring _ = false
-
-abbrev pub is_form : Event → Bool
-is_form (Form k) = true
-is_form _ = false
 
 -- ACTs may be given up by it, also others than its own
 abbrev pub spreads : Event → Bool
@@ -113,27 +133,27 @@ is_in_reach e (Submit n) = is_on_ring e
 is_in_reach e (Pass c) = is_on_ring e
 is_in_reach e (Form k) = is_on_ring e || may_free e
 is_in_reach e (Admit t) = is_on_ring e || may_free e
-is_in_reach e (Arrive k a) = is_at a (actor_of_event e) || is_at k (bid_of_event e)
-is_in_reach e (Ask t a) = (is_form e || spreads e) || (is_at a (actor_of_event e) || is_at t (tid_of_event e))
-is_in_reach e (Take t a) = is_form e || (is_at a (actor_of_event e) || is_at t (tid_of_event e))
-is_in_reach e (Run t a) = is_at a (actor_of_event e)
-is_in_reach e (Send t a) = is_at a (actor_of_event e)
-is_in_reach e (End t a) = is_at a (actor_of_event e)
-is_in_reach e (Close t a) = is_form e || (is_at a (actor_of_event e) || is_at t (tid_of_event e))
-is_in_reach e (Complete k a) = is_at a (actor_of_event e)
+is_in_reach e (Arrive k a) = is_at a (reached_by e) || is_at k (bid_of_event e)
+is_in_reach e (Ask t a) = spreads e || (is_at a (rolled_back_by e) || is_at t (taken_by e))
+is_in_reach e (Take t a) = is_at a (cut_by e) || (is_at t (taken_by e) || is_at t (left_by e))
+is_in_reach e (Run t a) = is_at a (cut_by e) || is_at t (left_by e)
+is_in_reach e (Send t a) = is_at a (rolled_back_by e) || is_at t (handed_on_by e)
+is_in_reach e (End t a) = is_at a (rolled_back_by e) || is_at t (handed_on_by e)
+is_in_reach e (Close t a) = is_at a (cut_by e) || is_at t (done_by e)
+is_in_reach e (Complete k a) = is_at a (cut_by e)
 is_in_reach e (Sync l) = is_on_log e
 is_in_reach e (Note k a) = is_at k (bid_of_event e)
 is_in_reach e (Commit k) = is_on_batches e || is_at k (bid_of_event e)
 is_in_reach e (Settle k) = is_at k (bid_of_event e)
 is_in_reach e (Abort k) = is_on_batches e || is_at k (bid_of_event e)
-is_in_reach e (Rollback a) = is_at a (actor_of_event e)
-is_in_reach e (DropSub k a) = is_at a (actor_of_event e) || is_at k (bid_of_event e)
-is_in_reach e (DropControl t) = is_form e || is_at t (tid_of_event e)
-is_in_reach e (Prepare t a) = spreads e || is_at t (tid_of_event e)
-is_in_reach e (Vouch t a) = spreads e || is_at t (tid_of_event e)
-is_in_reach e (Decide t) = (spreads e || is_settle e) || is_at t (tid_of_event e)
-is_in_reach e (Seal t) = spreads e || is_at t (tid_of_event e)
-is_in_reach e (Finish t a) = spreads e || is_at t (tid_of_event e)
+is_in_reach e (Rollback a) = is_at a (rolled_back_by e)
+is_in_reach e (DropSub k a) = is_at a (reached_by e) || is_at k (bid_of_event e)
+is_in_reach e (DropControl t) = is_at t (taken_by e)
+is_in_reach e (Prepare t a) = spreads e || is_at t (voted_by e)
+is_in_reach e (Vouch t a) = spreads e || is_at t (voted_by e)
+is_in_reach e (Decide t) = (spreads e || is_settle e) || is_at t (voted_by e)
+is_in_reach e (Seal t) = spreads e || is_at t (voted_by e)
+is_in_reach e (Finish t a) = spreads e || is_at t (voted_by e)
 is_in_reach e (Reply n) = false
 is_in_reach e (Trim k a) = is_at k (bid_of_event e)
 
