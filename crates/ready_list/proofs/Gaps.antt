@@ -29,7 +29,7 @@ below_at r [] i b h = absurd (omega (arith, h))
 below_at r (e ∷ es) zero b h = b.0
 below_at r (e ∷ es) (suc i) b h = below_at r es i b.1 (omega (arith, h))
 
-ascends_at : (es : List Event) (i j : ℕ) → AscendByRank es → i < j → j < length es → is_before (at es i) (at es j) ≡ true
+pub ascends_at : (es : List Event) (i j : ℕ) → AscendByRank es → i < j → j < length es → is_before (at es i) (at es j) ≡ true
 ascends_at [] i j a h g = absurd (omega (arith, g))
 ascends_at (e ∷ es) i zero a h g = absurd (omega (arith, h))
 ascends_at (e ∷ es) zero (suc j) a h g = below_at (rank e) es j a.0 (omega (arith, g))
@@ -37,7 +37,7 @@ ascends_at (e ∷ es) (suc i) (suc j) a h g = ascends_at es i j a.1 (omega (arit
 
 -- ---- events of one kind
 
-kind_at : (k : ℕ) (es : List Event) (i : ℕ) → AreOfKind k es → i < length es → kind_of (at es i) ≡ k
+pub kind_at : (k : ℕ) (es : List Event) (i : ℕ) → AreOfKind k es → i < length es → kind_of (at es i) ≡ k
 kind_at k [] i h l = absurd (omega (arith, l))
 kind_at k (e ∷ es) zero h l = h.0
 kind_at k (e ∷ es) (suc i) h l = kind_at k es i h.1 (omega (arith, l))
@@ -65,7 +65,7 @@ not_lower p q h =
     (not_below p.first q.first p.second q.second a b, not_below q.first p.first q.second p.second (sym a) (sym b))
 
 -- their numbers alone are compared
-by_numbers : (f e : Event) → kind_of f ≡ kind_of e → is_before f e ≡ is_lower (numbers f) (numbers e)
+pub by_numbers : (f e : Event) → kind_of f ≡ kind_of e → is_before f e ≡ is_lower (numbers f) (numbers e)
 by_numbers f e h = same_first (kind_of f) (kind_of e) (is_lower (numbers f) (numbers e)) h
 
 -- ---- the search: of what lies ahead all is before the event, of what lies behind nothing

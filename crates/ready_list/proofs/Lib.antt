@@ -1,4 +1,5 @@
 pub mod AmongRings
+pub mod FirstNumbers
 pub mod Gaps
 pub mod Reaches
 pub mod Roomed

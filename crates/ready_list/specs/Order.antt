@@ -8,6 +8,9 @@ use Rattle.ready_list.specs.declared.places.Place.{Place}
 abbrev pub kind_of : Event → ℕ
 kind_of e = (rank e).kind
 
+abbrev pub first_of : Event → ℕ
+first_of e = (rank e).first
+
 abbrev pub numbers : Event → Place
 numbers e = record { first = (rank e).first; second = (rank e).second }
 

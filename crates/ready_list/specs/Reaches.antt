@@ -1,36 +1,69 @@
--- Which kinds of events an event may refuse.
-use Rattle.std.specs.Prelude.{ℕ, ◌==◌, nat_le, Bool, not, ◌&&◌, ◌||◌, is_some}
-use Rattle.protocol.specs.Events.{Event}
-use Rattle.protocol_ready.specs.Refusing.{actor_of_event, tid_of_event, bid_of_event, is_on_ring, is_form, spreads, may_free, is_on_log, is_on_batches, is_settle}
-use Rattle.protocol_ready.specs.Touched.{is_abort}
+-- Of which kinds an event may refuse events, and which of these. The kinds are those of `rank`.
+use Rattle.std.specs.Prelude.{ℕ, ◌==◌, Bool, ◌&&◌, ◌||◌, List, [], ◌∷◌}
+use Rattle.std.specs.List.{list_any}
+use Rattle.protocol.specs.Events.{Event, Submit, Pass, Form, Admit, Arrive, Ask, Take, Run, Send, End, Close, Complete, Sync, Note, Commit, Settle, Abort, Rollback, DropSub, DropControl, Prepare, Vouch, Decide, Seal, Finish, Trim}
+use Rattle.ready_list.specs.Order.{first_of, kind_of, numbers}
 
--- of these kinds are events that an event on their actor may refuse
-abbrev pub is_by_actor : ℕ → Bool
-is_by_actor k = (nat_le 5 k && nat_le k 12) || ((k == 18) || (k == 19))
+-- the event is of one of these kinds
+abbrev pub is_among : List ℕ → Event → Bool
+is_among kinds f = list_any (λ k. k == kind_of f) kinds
 
--- of these, those that one on their transaction may refuse
-abbrev pub is_by_tid : ℕ → Bool
-is_by_tid k = ((k == 6) || (k == 7)) || ((k == 11) || (nat_le 20 k && nat_le k 25))
+-- of some kinds all events; of some those on an actor, which is their second number; of some those with a first number
+abbrev pub is_reached : List ℕ → List ℕ → ℕ → List ℕ → ℕ → Event → Bool
+is_reached wholly on_actor actor numbered number f = is_among wholly f || ((is_among on_actor f && (actor == (numbers f).second)) || (is_among numbered f && (number == first_of f)))
 
--- of these, those that one on their batch may refuse
-abbrev pub is_by_bid : ℕ → Bool
-is_by_bid k = ((k == 5) || (nat_le 14 k && nat_le k 17)) || ((k == 19) || (k == 27))
+-- of these kinds an event may refuse all
+abbrev pub kinds_wholly : Event → List ℕ
+kinds_wholly (Submit n) = 1 ∷ 2 ∷ 3 ∷ 4 ∷ []
+kinds_wholly (Pass c) = 1 ∷ 2 ∷ 3 ∷ 4 ∷ []
+kinds_wholly (Form k) = 1 ∷ 2 ∷ 3 ∷ 4 ∷ 13 ∷ 15 ∷ 17 ∷ []
+kinds_wholly (Admit t) = 1 ∷ 2 ∷ 3 ∷ 4 ∷ []
+kinds_wholly (Arrive k a) = 3 ∷ 4 ∷ 6 ∷ 21 ∷ 22 ∷ 23 ∷ 24 ∷ 25 ∷ []
+kinds_wholly (Ask t a) = 3 ∷ 4 ∷ 6 ∷ 21 ∷ 22 ∷ 23 ∷ 24 ∷ 25 ∷ []
+kinds_wholly (End t a) = 15 ∷ 17 ∷ []
+kinds_wholly (Complete k a) = 13 ∷ []
+kinds_wholly (Sync l) = 13 ∷ []
+kinds_wholly (Note k a) = 15 ∷ 17 ∷ []
+kinds_wholly (Commit k) = 13 ∷ []
+kinds_wholly (Settle k) = 15 ∷ 17 ∷ 23 ∷ []
+kinds_wholly (Abort k) = 1 ∷ 2 ∷ 3 ∷ 4 ∷ 5 ∷ 6 ∷ 7 ∷ 8 ∷ 9 ∷ 10 ∷ 11 ∷ 12 ∷ 13 ∷ 14 ∷ 15 ∷ 16 ∷ 17 ∷ 18 ∷ 19 ∷ 20 ∷ 21 ∷ 22 ∷ 23 ∷ 24 ∷ 25 ∷ 27 ∷ []
+kinds_wholly (Prepare t a) = 13 ∷ []
+kinds_wholly (Decide t) = 3 ∷ 4 ∷ 13 ∷ []
+kinds_wholly (Seal t) = 3 ∷ 4 ∷ []
+kinds_wholly (Finish t a) = 3 ∷ 4 ∷ []
+kinds_wholly (Trim k a) = 3 ∷ 4 ∷ []
+kinds_wholly _ = []
 
-abbrev pub is_by_form : ℕ → Bool
-is_by_form k = ((k == 6) || (k == 7)) || ((k == 11) || (k == 20))
+-- of these those on its actor
+abbrev pub kinds_on_actor : Event → List ℕ
+kinds_on_actor (Arrive k a) = 5 ∷ 19 ∷ []
+kinds_on_actor (Rollback a) = 5 ∷ 6 ∷ 7 ∷ 8 ∷ 9 ∷ 10 ∷ 11 ∷ 12 ∷ 19 ∷ []
+kinds_on_actor (DropSub k a) = 5 ∷ 19 ∷ []
+kinds_on_actor (Trim k a) = 7 ∷ 8 ∷ 11 ∷ 12 ∷ []
+kinds_on_actor _ = []
 
-abbrev pub is_by_spread : ℕ → Bool
-is_by_spread k = (k == 6) || (nat_le 21 k && nat_le k 25)
+-- of these those with its first number
+abbrev pub kinds_numbered : Event → List ℕ
+kinds_numbered (Form k) = 5 ∷ 14 ∷ 16 ∷ 19 ∷ 27 ∷ []
+kinds_numbered (Admit t) = 21 ∷ 22 ∷ 23 ∷ 24 ∷ 25 ∷ []
+kinds_numbered (Ask t a) = 7 ∷ 20 ∷ []
+kinds_numbered (Take t a) = 6 ∷ 7 ∷ 20 ∷ []
+kinds_numbered (Run t a) = 11 ∷ []
+kinds_numbered (Send t a) = 9 ∷ 10 ∷ []
+kinds_numbered (End t a) = 9 ∷ 10 ∷ 21 ∷ 22 ∷ 23 ∷ 24 ∷ 25 ∷ []
+kinds_numbered (Close t a) = 11 ∷ []
+kinds_numbered (Commit k) = 5 ∷ 14 ∷ 15 ∷ 16 ∷ 17 ∷ 19 ∷ 27 ∷ []
+kinds_numbered (Settle k) = 5 ∷ 14 ∷ 16 ∷ 19 ∷ 27 ∷ []
+kinds_numbered (Rollback a) = 18 ∷ []
+kinds_numbered (DropControl t) = 6 ∷ 7 ∷ 20 ∷ []
+kinds_numbered (Prepare t a) = 21 ∷ 22 ∷ 23 ∷ 24 ∷ 25 ∷ []
+kinds_numbered (Vouch t a) = 21 ∷ 22 ∷ 23 ∷ 24 ∷ 25 ∷ []
+kinds_numbered (Decide t) = 21 ∷ 22 ∷ 23 ∷ 24 ∷ 25 ∷ []
+kinds_numbered (Seal t) = 21 ∷ 22 ∷ 23 ∷ 24 ∷ 25 ∷ []
+kinds_numbered (Finish t a) = 7 ∷ 8 ∷ 9 ∷ 10 ∷ 21 ∷ 22 ∷ 23 ∷ 24 ∷ 25 ∷ []
+kinds_numbered _ = []
 
--- by its own kind
-abbrev pub may_refuse_by_kind : Event → ℕ → Bool
-may_refuse_by_kind e k =
-    (not (k == 26) && is_abort e) || ((nat_le k 4 && is_on_ring e) || ((nat_le k 4 && may_free e) || ((is_by_form k && is_form e) || ((is_by_spread k && spreads e)
-    || (((k == 13) && is_on_log e) || ((((k == 15) || (k == 17)) && is_on_batches e) || ((k == 23) && is_settle e)))))))
-
--- by what both are on
-abbrev pub may_refuse_by_place : Event → ℕ → Bool
-may_refuse_by_place e k = (is_by_actor k && is_some (actor_of_event e)) || ((is_by_tid k && is_some (tid_of_event e)) || (is_by_bid k && is_some (bid_of_event e)))
-
-abbrev pub may_refuse_kind : Event → ℕ → Bool
-may_refuse_kind e k = may_refuse_by_kind e k || may_refuse_by_place e k
+-- its actor, where there is one
+abbrev pub actor_of : Event → ℕ
+actor_of (Rollback a) = a
+actor_of e = (numbers e).second

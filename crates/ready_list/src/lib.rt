@@ -4,6 +4,8 @@
 //! is allowed is held, never the past. Room is made before an event is executed, so that no change of the list can lack memory.
 #![tactic(auto)]
 
+mod kinds;
+mod numbered;
 mod places;
 mod reach;
 mod ready;

@@ -1,12 +1,12 @@
 //! The list of events that are allowed, in order.
-ghost use Rattle.std.specs.Prelude.{◌≡◌, ◌+◌, ◌<◌, ◌≤◌, ◌==◌, ℕ, [], ◌++◌, filter, length, map, slice_get, Contains, OnErr, OnOk};
+ghost use Rattle.std.specs.Prelude.{◌≡◌, ◌+◌, ◌<◌, ◌≤◌, ◌==◌, ◌&&◌, ℕ, [], ◌++◌, filter, length, map, slice_get, Contains, OnErr, OnOk};
 ghost use Rattle.std.specs.Option.{option_map};
 ghost use Rattle.core_events.specs.Meant.{event_meant};
 ghost use Rattle.protocol.specs.Events as machine;
 ghost use Rattle.protocol_ready.specs.Ready.{put, without};
-ghost use Rattle.ready_list.specs.Order.{kind_of, spare_of};
+ghost use Rattle.ready_list.specs.Order.{first_of, kind_of, spare_of};
 
-use crate::places::kind_of;
+use crate::kinds::{KIND_BOUND, kind_of};
 use crate::ring::Ring;
 use crate::rings::{next_from, nth_from, put_in, room_for, take_out};
 use core_events::Event;
@@ -48,7 +48,7 @@ impl ReadyList {
             alloc,
             kinds: Vec::new(alloc),
             count: 0,
-            first: 28,
+            first: KIND_BOUND as usize,
         }
     }
 
@@ -72,6 +72,16 @@ impl ReadyList {
     {
         match self.kinds.get(kind as usize) {
             Some(ring) => ring.pieces(),
+            None => (&[], &[]),
+        }
+    }
+
+    /// Those of this kind with this first number, in order, in two pieces. They are found by halves.
+    pub fn of_number(&self, kind: u8, number: u64) -> (&[Event], &[Event])
+        ensures { map event_meant (result.0.now ++ result.1.now) ≡ filter (λ f. (kind_of f == kind) && (first_of f == number)) self.now.events }
+    {
+        match self.kinds.get(kind as usize) {
+            Some(ring) => ring.numbered(number),
             None => (&[], &[]),
         }
     }

@@ -1,13 +1,14 @@
 //! The events of one kind, in order.
-ghost use Rattle.std.specs.Prelude.{◌≡◌, ◌+◌, ◌<◌, ◌≤◌, [], ◌++◌, if◌then◌else◌, length, map, slice_get, slice_index_or, true, OnErr, OnOk};
+ghost use Rattle.std.specs.Prelude.{◌≡◌, ℕ, ◌+◌, ◌<◌, ◌≤◌, ◌==◌, [], ◌++◌, if◌then◌else◌, filter, length, map, slice_get, slice_index_or, true, OnErr, OnOk};
 ghost use Rattle.std.specs.List.{insert, remove};
 ghost use Rattle.std.specs.Option.{option_map};
 ghost use Rattle.std.specs.VecDeque.{deque_len, deque_capacity};
 ghost use Rattle.core_events.specs.Meant.{event_meant};
 ghost use Rattle.protocol_ready.specs.Ready.{put, without};
-ghost use Rattle.ready_list.specs.Order.{IsGap, is_lower, is_same, is_there, kind_of, numbers};
+ghost use Rattle.ready_list.specs.Order.{IsGap, first_of, is_lower, is_same, is_there, kind_of, numbers};
 ghost use Rattle.ready_list.specs.Rings.{AreOfKind};
 
+use crate::numbered::with_number;
 use crate::places::{Place, place_of};
 use core_events::Event;
 use protocol_ready::{events_stay_in_order, ranks_are_in_order};
@@ -66,6 +67,15 @@ impl Ring {
         ensures { map event_meant (result.0.now ++ result.1.now) ≡ self.now.events }
     {
         self.events.as_slices()
+    }
+
+    /// Those with this first number, in order, in two pieces.
+    pub(crate) fn numbered(&self, number: u64) -> (&[Event], &[Event])
+        requires { (k : ℕ) × AreOfKind k self.now.events }
+        ensures { map event_meant (result.0.now ++ result.1.now) ≡ filter (λ f. first_of f == number) self.now.events }
+    {
+        let (head, tail) = self.events.as_slices();
+        (with_number(head, number), with_number(tail, number))
     }
 
     /// Makes room for so many more, and changes nothing else. `Memory` only where there was less room; then there is as much

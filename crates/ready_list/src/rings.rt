@@ -7,7 +7,7 @@ ghost use Rattle.protocol_ready.specs.Ready.{put, without};
 ghost use Rattle.ready_list.specs.Order.{kind_of};
 ghost use Rattle.ready_list.specs.Rings.{AreOfKind, AreRoomier, IsOneChanged, NoneAhead, all_events, events_at, spare_at};
 
-use crate::places::kind_of;
+use crate::kinds::kind_of;
 use crate::ring::Ring;
 use core_events::Event;
 use snap_base::Memory;
