@@ -6,10 +6,14 @@ use Rattle.snap_base.specs.declared.transactions.State.{State}
 use Rattle.snap_base.proofs.Lists.{each_read, weaker}
 use Rattle.aml_tree.specs.Tree.{Code, CheckedMethod}
 use Rattle.aml_check.specs.Names.{method_at, no_method}
-use Rattle.aml_check.specs.Closed.{IsClosedMethod, IsClosedProgram}
+use Rattle.aml_check.specs.Closed.{IsClosedMethod, IsClosedProgram, nesting}
 use Rattle.aml_resume.specs.declared.exits.Exit.TheVariants as exit
 use Rattle.aml_resume.specs.declared.places.Spot.{Spot}
-use Rattle.aml_resume.specs.Places.{IsPlace, IsRunnable, behind_some, inner_of}
+use Rattle.aml_resume.specs.Places.{IsPlace, IsRunnable, Standing, behind_some, inner_of}
+use Rattle.aml_resume.specs.Pausing.{Calling, method_pause}
+use Rattle.aml_resume.specs.Resuming.{IsAllowedPause, PausesWhereAllowed}
+use Rattle.aml_resume.proofs.Behinds.{deep_inside}
+use Rattle.aml_resume.proofs.BlockLaws.{some_level}
 use Rattle.aml_slice.specs.Controls.{Frame, Rest, IsFrame, IsRest, StandsOn, HasLeft, progress_in, with_given, fresh}
 use Rattle.aml_slice.specs.Views.{NextFrame, HasPlace, Enters}
 use Rattle.aml_slice.proofs.Moving.{Ran, Follows}
@@ -155,3 +159,19 @@ place_fits p n b (q ∷ qs) next h = place_fits p n (inner_of q.other (behind_so
 pub frames_have_place : (p : List CheckedMethod) (count : ℕ) (fs : List Frame) → AllByRecursion (IsFrame p count 1) fs → HasPlace fs
 frames_have_place p count [] h = tt
 frames_have_place p count (f ∷ fs) h = (place_fits p (length f.standing.variables + 1) (method_at p f.method).body f.standing.path f.standing.next h.0.place, frames_have_place p count fs h.1)
+
+-- fewer blocks are open than the block has levels
+path_deep : (p : List CheckedMethod) (n : ℕ) (b : Code ℕ ℕ) (path : List Spot) (next : ℕ) → IsPlace p n b path next → length path < nesting b
+path_deep p n b [] next h = omega (arith, some_level b)
+path_deep p n b (q ∷ qs) next h = omega (arith, deep_inside q.other q.at b h.0, path_deep p n (inner_of q.other (behind_some q.at b)) qs next h.1)
+
+-- the frame that runs has few variables and few open blocks where it comes to wait
+pub asks_small : (p : List CheckedMethod) (count : ℕ) (c : Rest) (s t : State) (g : Standing) (n : ℕ) (target : ℤ) (m : ℕ) (arguments : List ℤ) → PausesWhereAllowed → IsClosedProgram p → IsRest p count c → Calling target m arguments g t n ≡ method_pause c.top.actor (method_at p c.top.method).body c.top.standing s c.statements → (length g.variables ≤ 32) × (length g.path ≤ 32)
+asks_small p count c s t g n target m arguments allowed closed is asks =
+    let method = each_read (IsClosedMethod p) p c.top.method no_method closed.methods is.top.has_method in
+    let P : ℕ → Type 0 = λ k. IsPlace p k (method_at p c.top.method).body c.top.standing.path c.top.standing.next in
+    let from : IsPlace p (length c.top.standing.variables) (method_at p c.top.method).body c.top.standing.path c.top.standing.next = subst P (let same : length c.top.standing.variables + 0 ≡ length c.top.standing.variables = omega arith in same) is.top.place in
+    let there : IsAllowedPause p (method_at p c.top.method).body (Calling target m arguments g t n) = subst (IsAllowedPause p (method_at p c.top.method).body) (sym asks) (allowed p c.top.actor (method_at p c.top.method).body c.top.standing s c.statements from) in (
+      omega (arith, place_fits p (length g.variables + 1) (method_at p c.top.method).body g.path g.next there.0),
+      omega (arith, path_deep p (length g.variables + 1) (method_at p c.top.method).body g.path g.next there.0, method.deep),
+    )

@@ -1,7 +1,7 @@
 pub mod Binding
 pub mod RisingRests
 pub mod NearLaws
-pub mod FrameLists
+pub mod KeptFrames
 pub mod Askings
 pub mod Admissions
 pub mod SpareFrames

@@ -1,13 +1,11 @@
--- Frames that are spare stay enough from call to call.
+-- Room for frames stays enough from call to call.
 use Rattle.std.proofs.Common.{◌≡◌, ℕ, ◌+◌, ◌-◌, ◌<◌, ◌≤◌, inl, inr, Ok, Option, Some, None, List, refl, sym, subst, arith}
 use Rattle.snap_base.specs.declared.ids.ActorId.{ActorId}
 use Rattle.aml_check.specs.Meaning.{Progress, admitted}
 use Rattle.aml_slice.specs.Views.{IsEnough, calls_of}
 use Rattle.aml_slice.proofs.Admissions.{Admits, admits}
 
--- ---- a frame comes to wait
-
--- there was one, and without it there are enough
+-- there was room for it, and without it there is enough
 pub record IsSpared (waiting spare : ℕ) (left : Option (List (ActorId × ℕ))) : Type 0 where
   pub some : 1 ≤ spare
   pub enough : IsEnough (waiting + 1) (spare - 1) left
@@ -27,10 +25,3 @@ spared_by waiting spare a r q (Some us) was few enough took =
 
 pub spared : (waiting spare a : ℕ) (r q : Progress) → waiting < 15 → IsEnough waiting spare r.left → admitted a r ≡ Ok q → IsSpared waiting spare q.left
 spared waiting spare a r q few enough took = spared_by waiting spare a r q r.left refl few enough (admits a r q took)
-
--- ---- a frame that waited runs
-
-pub enough_given : (waiting spare : ℕ) (left : Option (List (ActorId × ℕ))) → IsEnough (waiting + 1) spare left → IsEnough waiting (spare + 1) left
-enough_given waiting spare None enough = omega (arith, enough)
-enough_given waiting spare (Some us) (inl all) = inl (omega arith)
-enough_given waiting spare (Some us) (inr calls) = inr (omega arith)

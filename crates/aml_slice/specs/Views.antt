@@ -1,16 +1,19 @@
 -- Only private contracts cite this; the rule is Slicing.
-use Rattle.std.specs.Prelude.{◌≡◌, ℕ, ◌+◌, ◌<◌, ◌≤◌, ◌⊎◌, ℤ, Result, Ok, Err, Option, Some, None, List, [], ◌∷◌, length, map, reverse, option_map, vec_capacity}
-use Rattle.std.specs.List.{AllByRecursion}
+use Rattle.std.specs.Prelude.{◌≡◌, ℕ, ◌+◌, ◌-◌, ◌*◌, ◌<◌, ◌≤◌, ◌⊎◌, ℤ, Result, Ok, Err, Option, Some, None, List, [], ◌∷◌, length, take, drop, reverse, option_map, vec_capacity}
+use Rattle.std.specs.List.{AllByRecursion, sum_by}
 use Rattle.snap_base.specs.declared.ids.ActorId.{ActorId}
 use Rattle.snap_base.specs.declared.transactions.State.{State}
 use Rattle.snap_base.specs.declared.transactions.TxResult.{TxResult}
-use Rattle.aml_tree.specs.declared.limits.TheConstants.{MOST_NAMES}
+use Rattle.aml_tree.specs.declared.limits.TheConstants.{MOST_LEVELS, MOST_NAMES}
 use Rattle.aml_check.specs.declared.limits.TheConstants.{MOST_CALLED_ACTORS, MOST_CALLS}
 use Rattle.aml_check.specs.Meaning.{Progress, actor_of, admitted, too_deep}
 use Rattle.aml_resume.specs.Rooms.{standing_of, HasRoom}
+use Rattle.aml_resume.specs.declared.places.Spot.{Spot}
 use Rattle.aml_slice.specs.declared.allowances.Allowance.{Allowance}
 use Rattle.aml_slice.specs.declared.frames.Frame as code
 use Rattle.aml_slice.specs.declared.running.Running.{Running}
+use Rattle.aml_slice.specs.declared.saved.SavedFrame.{SavedFrame}
+use Rattle.aml_slice.specs.declared.saved.SavedFrames.{SavedFrames}
 use Rattle.aml_slice.specs.Controls.{Frame, Rest, fresh, most_waiting, progress_in, with_given}
 use Rattle.aml_slice.specs.Slicing.{Move, To, Out}
 
@@ -19,11 +22,31 @@ use Rattle.aml_slice.specs.Slicing.{Move, To, Out}
 abbrev pub frame_of : code.Frame → Frame
 frame_of f = record { actor = f.actor; method = f.method; standing = standing_of f.activation }
 
+-- the last so many of a list, and those before them
+abbrev pub last_of : {X : Type 0} → ℕ → List X → List X
+last_of n xs = drop (length xs - n) xs
+
+abbrev pub before_last : {X : Type 0} → ℕ → List X → List X
+before_last n xs = take (length xs - n) xs
+
+-- a frame that waits, with its variables and its open blocks
+abbrev pub saved_frame : SavedFrame → List ℤ → List Spot → Frame
+saved_frame f vs qs = record { actor = f.actor; method = f.method; standing = record { path = reverse qs; next = f.next; variables = vs } }
+
+-- frames that wait, the innermost first: the last variables and open blocks that are saved are its, and those before them
+-- are the others'
+abbrev pub frames_in : List SavedFrame → List ℤ → List Spot → List Frame
+frames_in [] vs qs = []
+frames_in (f ∷ fs) vs qs = saved_frame f (last_of f.variables vs) (last_of f.levels qs) ∷ frames_in fs (before_last f.variables vs) (before_last f.levels qs)
+
+abbrev pub frames_of : SavedFrames → List Frame
+frames_of s = frames_in (reverse s.frames.items) s.variables.items s.path.items
+
 abbrev pub rest_of : Running → Rest
 rest_of c = record {
   tid = c.tid;
   top = frame_of c.top;
-  waiting = reverse (map frame_of c.waiting.items);
+  waiting = frames_of c.waiting;
   statements = c.statements;
   calls = c.allowance.calls;
   actors = c.allowance.actors.items;
@@ -45,7 +68,7 @@ move_at t d (Ok a) = To d t
 move_at t d (Err r) = Out r t
 
 -- a frame that waits on the actor
-abbrev pub WaitsOn : List code.Frame → ℕ → Type 0
+abbrev pub WaitsOn : List SavedFrame → ℕ → Type 0
 WaitsOn [] a = ⊥
 WaitsOn (f ∷ fs) a = (f.actor ≡ a) ⊎ WaitsOn fs a
 
@@ -62,15 +85,25 @@ abbrev pub IsEnough : ℕ → ℕ → Option (List (ActorId × ℕ)) → Type 0
 IsEnough waiting spare None = most_waiting ≤ waiting + spare
 IsEnough waiting spare (Some us) = (most_waiting ≤ waiting + spare) ⊎ (calls_of us ≤ spare)
 
--- no slice needs memory: all frames that may come to be open are there, with room for the variables and the place of each; and no
+-- A row of what frames keep, so many of each and at most so many: they add up to its length, and there is room for those of
+-- so many frames.
+pub record IsRow (of : SavedFrame → ℕ) (most : ℕ) (frames : List SavedFrame) (room size capacity : ℕ) : Type 0 where
+  pub few : AllByRecursion (λ (f : SavedFrame). of f ≤ most) frames
+  pub all : sum_by of frames ≡ size
+  pub fits : room * most ≤ capacity
+
+-- the variables and the open blocks of the frames that wait
+pub record AreKept (s : SavedFrames) : Type 0 where
+  pub variables : IsRow (λ (f : SavedFrame). f.variables) MOST_NAMES s.frames.items (vec_capacity s.frames) (length s.variables.items) (vec_capacity s.variables)
+  pub path : IsRow (λ (f : SavedFrame). f.levels) MOST_LEVELS s.frames.items (vec_capacity s.frames) (length s.path.items) (vec_capacity s.path)
+
+-- no slice needs memory: there is room for all frames that may come to wait, and for the variables and the place of each; and no
 -- more calls were made than a transaction may make
 pub record HasRooms (c : Running) : Type 0 where
   pub top : HasRoom c.top.activation
-  pub waiting : AllByRecursion (λ (f : code.Frame). HasRoom f.activation) c.waiting.items
-  pub spare : AllByRecursion HasRoom c.spare.items
-  pub frames : IsEnough (length c.waiting.items) (length c.spare.items) (option_map (λ us. us.items) c.allowance.left)
-  pub few : length c.waiting.items ≤ most_waiting
-  pub frames_fit : (length c.waiting.items + length c.spare.items ≤ vec_capacity c.waiting) × (length c.waiting.items + length c.spare.items ≤ vec_capacity c.spare)
+  pub kept : AreKept c.waiting
+  pub frames : IsEnough (length c.waiting.frames.items) (vec_capacity c.waiting.frames - length c.waiting.frames.items) (option_map (λ us. us.items) c.allowance.left)
+  pub few : length c.waiting.frames.items ≤ most_waiting
   pub arguments : MOST_NAMES ≤ vec_capacity c.arguments
   pub actors : MOST_CALLED_ACTORS ≤ vec_capacity c.allowance.actors
   pub calls : c.allowance.calls ≤ MOST_CALLS

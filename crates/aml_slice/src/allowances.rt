@@ -3,7 +3,7 @@
 ghost use Rattle.std.specs.Prelude.{◌≡◌, ◌<◌, ◌==◌, ◌≤◌, ◌+◌, ◌∷◌, ◌++◌, ℕ, [], List, Some, vec_capacity, IfOk, IsTrue, ◌↔◌, option_map, Contains};
 ghost use Rattle.std.specs.List.{list_any};
 ghost use Rattle.snap_base.specs.declared.transactions.State.{State};
-ghost use Rattle.aml_slice.specs.Controls.{IsCallLeft, HasLeft};
+ghost use Rattle.aml_slice.specs.Controls.{IsCallLeft, HasLeft, most_waiting};
 ghost use Rattle.aml_slice.specs.Views.{IsEnough};
 ghost use Rattle.aml_check.specs.Meaning.{actor_of, one_call, with_actor, declared, admitted};
 
@@ -53,7 +53,8 @@ fn is_left(uses: &[(ActorId, u8)], actor: u16) -> bool
 
 /// The frames that so many calls may open at a time: as many as may wait, or these calls, where they are fewer.
 fn frames_of_calls(uses: &[(ActorId, u8)]) -> usize
-    ensures { IsEnough 0 result (Some uses.now) }
+    ensures enough { IsEnough 0 result (Some uses.now) }
+    ensures few { result ≤ most_waiting }
 {
     let mut calls = 0;
     for one in uses {
@@ -151,7 +152,8 @@ impl Allowance {
     /// The frames beside the one that runs that there may be at a time, where none waits: of a PACT no more than the calls
     /// that it has left of those that it declared.
     pub(crate) fn frames_to_come(&self) -> usize
-        ensures { IsEnough 0 result (option_map (λ us. us.items) self.now.left) }
+        ensures enough { IsEnough 0 result (option_map (λ us. us.items) self.now.left) }
+        ensures few { result ≤ most_waiting }
     {
         match &self.left {
             None => MOST_OPEN_CALLS - 1,

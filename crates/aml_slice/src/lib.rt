@@ -11,6 +11,7 @@ mod controls;
 mod frames;
 mod laws;
 mod running;
+mod saved;
 mod slices;
 mod starts;
 

@@ -1,15 +1,16 @@
 //! What is left of a transaction, and the moves from frame to frame.
 
-ghost use Rattle.std.specs.Prelude.{◌≡◌, ◌+◌, ◌-◌, ◌<◌, ◌≤◌, ◌∷◌, [], ℕ, length, MatchOption, MatchResult, IfOk, IsTrue, ◌↔◌, option_map, vec_capacity};
+ghost use Rattle.std.specs.Prelude.{◌≡◌, ◌+◌, ◌-◌, ◌<◌, ◌≤◌, ◌∷◌, [], length, MatchOption, MatchResult, IfOk, IsTrue, ◌↔◌, option_map, vec_capacity};
 ghost use Rattle.aml_check.specs.Checked.{methods_of};
 ghost use Rattle.aml_check.specs.Names.{method_at};
 ghost use Rattle.aml_resume.specs.Places.{IsPlace};
-ghost use Rattle.aml_slice.specs.Views.{WaitsOn};
 
 use crate::allowances::{Allowance, actor_of};
 use crate::frames::Frame;
+use crate::saved::SavedFrames;
 use aml_check::{Checked, MOST_OPEN_CALLS, MOST_STATEMENTS};
-use aml_resume::{Activation, Exit, resume};
+use aml_resume::{Exit, resume};
+use aml_tree::{MOST_LEVELS, MOST_NAMES};
 use aml_values::{Code, TOO_DEEP};
 use snap_base::{State, Tid};
 use std::mem;
@@ -20,11 +21,9 @@ pub(crate) struct Running {
     pub(crate) tid: Tid,
     /// The frame that runs.
     pub(crate) top: Frame,
-    /// The frames that wait for a value, the root first.
-    pub(crate) waiting: Vec<Frame>,
-    /// Room for the frames that may still come to be open: with those that are, as many as calls may be open, or of a PACT
-    /// as many as calls are left of those that it declared, where these are fewer.
-    pub(crate) spare: Vec<Activation>,
+    /// The frames that wait for a value. With those that wait there is room for as many as calls may be open, or of a PACT
+    /// for as many as calls are left of those that it declared, where these are fewer.
+    pub(crate) waiting: SavedFrames,
     /// The values that a call passes on.
     pub(crate) arguments: Vec<i64>,
     /// The statements that were begun, at most `MOST_STATEMENTS`.
@@ -32,22 +31,10 @@ pub(crate) struct Running {
     pub(crate) allowance: Allowance,
 }
 
-/// Whether one of the frames stands on the actor.
-fn waits_on(frames: &[Frame], actor: u16) -> bool
-    ensures { IsTrue result ↔ WaitsOn frames.now actor }
-{
-    for frame in frames {
-        if frame.actor == actor {
-            return true;
-        }
-    }
-    false
-}
-
 impl Running {
     ghost use Rattle.aml_resume.specs.Pausing.{method_pause, pause_of};
     ghost use Rattle.aml_slice.specs.Controls.{StandsOn, most_waiting};
-    ghost use Rattle.aml_slice.specs.Views.{frame_of, rest_of, Enters, HasPlace, HasRooms, IsEnough, NewFrame, NextFrame, RefusesCall};
+    ghost use Rattle.aml_slice.specs.Views.{rest_of, Enters, HasPlace, HasRooms, IsEnough, NewFrame, NextFrame, RefusesCall};
 
     /// Runs the frame on its actor's state up to its next call, or to its end.
     pub(crate) fn run(&mut self, program: &Checked, state: &mut State) -> Result<Exit, Code>
@@ -75,6 +62,7 @@ impl Running {
     /// that are passed. A call that is refused is told by its code, and no frame is opened for it.
     pub(crate) fn call(&mut self, actors: u16, target: i64, method: u16) -> Result<u16, Code>
         requires rooms { HasRooms self.old }
+        requires small { (length self.old.top.activation.variables.items ≤ MOST_NAMES) × (length self.old.top.activation.path.items ≤ MOST_LEVELS) }
         ensures called { MatchResult result (λ a. Enters actors (rest_of self.old) (rest_of self.new) target method self.old.arguments.items a) (λ code. RefusesCall actors (rest_of self.old) target code) }
         ensures rooms { IfOk result (λ _. HasRooms self.new) }
     {
@@ -95,9 +83,7 @@ impl Running {
         ensures given { MatchOption result ((rest_of self.old).waiting ≡ []) (λ a. NextFrame (rest_of self.old) (rest_of self.new) value a) }
         ensures rooms { MatchOption result (0 ≤ 0) (λ _. HasRooms self.new) }
     {
-        let frame = self.waiting.pop()?;
-        let ended = mem::replace(&mut self.top, frame);
-        self.spare.push_reserved(ended.activation);
+        self.waiting.restore(&mut self.top)?;
         self.top.activation.variables.push_reserved(value);
         Some(self.top.actor)
     }
@@ -105,31 +91,24 @@ impl Running {
     /// The frame that runs waits, and one for a method on an actor runs with the arguments that are passed.
     pub(crate) fn enter(&mut self, actor: u16, method: u16)
         requires rooms { HasRooms self.old }
-        requires few { length self.old.waiting.items < most_waiting }
-        requires spare { 1 ≤ length self.old.spare.items }
-        requires enough { IsEnough (length self.old.waiting.items + 1) (length self.old.spare.items - 1) (option_map (λ us. us.items) self.old.allowance.left) }
+        requires few { length self.old.waiting.frames.items < most_waiting }
+        requires spare { length self.old.waiting.frames.items < vec_capacity self.old.waiting.frames }
+        requires enough { IsEnough (length self.old.waiting.frames.items + 1) (vec_capacity self.old.waiting.frames - length self.old.waiting.frames.items - 1) (option_map (λ us. us.items) self.old.allowance.left) }
+        requires small { (length self.old.top.activation.variables.items ≤ MOST_NAMES) × (length self.old.top.activation.path.items ≤ MOST_LEVELS) }
         ensures entered { NewFrame (rest_of self.old) (rest_of self.new) actor method self.old.arguments.items }
         ensures rooms { HasRooms self.new }
     {
-        let Some(mut fresh) = self.spare.pop() else {
-            unreachable!()
-        };
-        fresh.path.clear();
-        fresh.next = 0;
-        mem::swap(&mut fresh.variables, &mut self.arguments);
-        let frame = Frame {
-            actor,
-            method,
-            activation: fresh,
-        };
-        let below = mem::replace(&mut self.top, frame);
-        self.waiting.push_reserved(below);
+        self.waiting.save(&mut self.top);
+        self.top.actor = actor;
+        self.top.method = method;
+        self.top.activation.next = 0;
+        mem::swap(&mut self.top.activation.variables, &mut self.arguments);
     }
 
     /// Whether a frame stands on the actor.
     pub(crate) fn stands_on(&self, actor: u16) -> bool
         ensures { IsTrue result ↔ StandsOn ((rest_of self.now).top ∷ (rest_of self.now).waiting) actor }
     {
-        self.top.actor == actor || waits_on(self.waiting.as_slice(), actor)
+        self.top.actor == actor || self.waiting.stands_on(actor)
     }
 }

@@ -2,6 +2,8 @@
 
 ghost use Rattle.std.specs.Prelude.{◌≡◌, ◌<◌, ◌≤◌, ℕ, IfOk};
 ghost use Rattle.aml_check.specs.Checked.{methods_of};
+ghost use Rattle.aml_check.specs.Closed.{IsClosedProgram};
+ghost use Rattle.aml_resume.specs.Resuming.{PausesWhereAllowed};
 ghost use Rattle.aml_slice.specs.Controls.{IsRest};
 ghost use Rattle.aml_slice.specs.Slicing.{move, slice_end};
 ghost use Rattle.aml_slice.specs.Views.{move_at, rest_of, HasRooms};
@@ -23,6 +25,8 @@ fn advance(
 ) -> Result<u16, TxResult>
     requires rest { IsRest (methods_of program.now) actors (rest_of running.old) }
     requires rooms { HasRooms running.old }
+    requires closed { IsClosedProgram (methods_of program.now) }
+    requires allowed { PausesWhereAllowed }
     ensures exactly { move_at state.new (rest_of running.new) result ≡ move (methods_of program.now) actors (rest_of running.old) state.old }
     ensures stands { IfOk result (λ a. (rest_of running.new).top.actor ≡ a) }
     ensures rooms { IfOk result (λ _. HasRooms running.new) }

@@ -1,7 +1,6 @@
 //! A control at the beginning of its transaction.
 
 ghost use Rattle.std.specs.Prelude.{◌≡◌, ◌≤◌, ◌<◌, ◌+◌, ◌∷◌, ◌++◌, ℕ, [], List, Ok, length, IfOk, option_map, vec_capacity};
-ghost use Rattle.std.specs.List.{AllByRecursion};
 ghost use Rattle.aml_check.specs.Checked.{methods_of};
 ghost use Rattle.aml_check.specs.Meaning.{admitted, beginning, declaration};
 ghost use Rattle.aml_check.specs.Transactions.{IsTransaction};
@@ -16,6 +15,7 @@ use crate::allowances::Allowance;
 use crate::controls::Control;
 use crate::frames::Frame;
 use crate::running::Running;
+use crate::saved::SavedFrames;
 use aml_check::{Checked, MOST_CALLED_ACTORS, MOST_CALLS};
 use aml_resume::Activation;
 use aml_tree::{MOST_LEVELS, MOST_NAMES};
@@ -31,18 +31,6 @@ fn room(alloc: Global) -> Result<Activation, Memory>
         path: Vec::with_capacity(alloc, MOST_LEVELS)?,
         next: 0,
     })
-}
-
-/// Room for so many frames.
-fn rooms(alloc: Global, number: usize) -> Result<Vec<Activation>, Memory>
-    ensures all { IfOk result (λ rooms. AllByRecursion HasRoom rooms.items) }
-    ensures number { IfOk result (λ rooms. (length rooms.items ≡ number) × (number ≤ vec_capacity rooms)) }
-{
-    let mut rooms = Vec::with_capacity(alloc, number)?;
-    for made in 0..number {
-        rooms.push_reserved(room(alloc)?);
-    }
-    Ok(rooms)
 }
 
 /// A method at its beginning, with its arguments.
@@ -105,8 +93,7 @@ fn root(alloc: Global, tid: Tid, tx: &Tx) -> Result<Running, Memory>
     Ok(Running {
         tid,
         top,
-        waiting: Vec::with_capacity(alloc, frames)?,
-        spare: rooms(alloc, frames)?,
+        waiting: SavedFrames::with_room(alloc, frames)?,
         arguments: Vec::with_capacity(alloc, MOST_NAMES)?,
         statements: 0,
         allowance,

@@ -1,6 +1,6 @@
 use Rattle.std.proofs.Common.{drop}
 use Rattle.aml_slice.specs.Views.{WaitsOn}
-use Rattle.aml_slice.proofs.running.waits_on.Given as goal
+use Rattle.aml_slice.proofs.saved.waits_on.Given as goal
 
 -- what waits on the actor stands behind this place
 abbrev pub invariant-loop-frame : goal.invariant-loop-frame
