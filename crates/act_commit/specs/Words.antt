@@ -1,20 +1,22 @@
 -- What is asked of the votes.
 use Rattle.std.specs.Prelude.{ℕ, nat_le, Bool, ◌&&◌, ◌||◌, is_some, Option, Some, None, List, [], map}
+use Rattle.std.specs.Option.{option_map}
+use Rattle.snap_base.specs.declared.transactions.TxResult.{TxResult}
 pub use Rattle.snap_base.specs.States.{actor_numbers}
 use Rattle.protocol.specs.Parts.{Status, Live, Doomed, Decided, Sealed, Act, Book}
 use Rattle.protocol.specs.Words.{is_failure, is_live_status, is_vouched_everywhere, act_of, holds}
 use Rattle.protocol.specs.Effects.{ascending}
 
--- the number of an ACT's commit, once it has one
-abbrev pub commit_number_if_decided : Status → Option ℕ
-commit_number_if_decided Live = None
-commit_number_if_decided (Doomed why) = None
-commit_number_if_decided (Decided c) = Some c
-commit_number_if_decided (Sealed c) = Some c
+-- the number of an ACT's commit and how it ended, where it is sealed
+abbrev pub sealing_of : Status → Option TxResult → Option (ℕ × TxResult)
+sealing_of Live r = None
+sealing_of (Doomed why) r = None
+sealing_of (Decided c) r = None
+sealing_of (Sealed c) r = option_map (λ e. (c, e)) r
 
-abbrev pub number_by : Option Act → Option ℕ
-number_by None = None
-number_by (Some x) = commit_number_if_decided x.status
+abbrev pub sealing_by : Option Act → Option (ℕ × TxResult)
+sealing_by None = None
+sealing_by (Some x) = sealing_of x.status x.result
 
 -- the actors that it joined, as its commit record has them
 abbrev pub actors_by : Option Act → List ℕ

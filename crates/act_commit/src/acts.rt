@@ -3,7 +3,7 @@ ghost use Rattle.std.specs.Prelude.{◌≡◌, ◌+◌, ◌<◌, ◌^◌, not, �
 ghost use Rattle.protocol.specs.BookParts.{no_votes, votes_begin, result_by};
 ghost use Rattle.protocol.specs.OnBook.{act_prepared, act_vouched, act_decided, act_sealed};
 ghost use Rattle.protocol.specs.Words.{act_of, holds, joined_of, is_decided, is_sealed};
-ghost use Rattle.act_commit.specs.Words.{actor_numbers, number_by, actors_by, is_undecided, is_ready, votes_may_decide};
+ghost use Rattle.act_commit.specs.Words.{actor_numbers, sealing_by, actors_by, is_undecided, is_ready, votes_may_decide};
 
 use crate::seats::Mark;
 use crate::vote::{Change, Vote};
@@ -199,12 +199,12 @@ impl Acts {
         }
     }
 
-    /// The number of ACT t's commit; `None` exactly where it is not decided.
-    pub fn commit_number(&self, t: Tid) -> Option<u64>
-        ensures { result ≡ number_by (act_of t.0 self.now.acts) }
+    /// The number of ACT t's commit and how it ended; `None` exactly where it is not sealed.
+    pub fn sealing(&self, t: Tid) -> Option<(u64, TxResult)>
+        ensures { result ≡ sealing_by (act_of t.0 self.now.acts) }
     {
         match self.votes.get(t) {
-            Some(vote) => vote.number(),
+            Some(vote) => vote.sealing(),
             None => None,
         }
     }

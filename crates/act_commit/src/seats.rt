@@ -105,7 +105,7 @@ impl Seat {
 pub(crate) fn seats_on(alloc: Global, actors: &[ActorId]) -> Result<Vec<Seat>, Memory>
     ensures { IfOk result (λ seats. seats.items ≡ map not_voted (actor_numbers actors.now)) }
 {
-    let mut seats = Vec::new(alloc);
+    let mut seats = Vec::with_capacity(alloc, actors.len())?;
     for actor in actors {
         seats.push(Seat::new(*actor))?;
     }

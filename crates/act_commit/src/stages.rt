@@ -3,7 +3,6 @@ ghost use Rattle.std.specs.Prelude.{◌≡◌};
 ghost use Rattle.protocol.specs.OnBook.{decided_status, sealed_status};
 ghost use Rattle.protocol.specs.Words.{is_live_status, is_decided, is_sealed};
 ghost use Rattle.act_commit.specs.Stages.{status_of_stage};
-ghost use Rattle.act_commit.specs.Words.{commit_number_if_decided};
 
 /// How far the commit of an ACT that ended has come.
 #[derive(Clone, Copy)]
@@ -69,16 +68,6 @@ impl Stage {
         match self {
             Stage::Sealed(_) => true,
             Stage::Open | Stage::Decided(_) => false,
-        }
-    }
-
-    /// The number of the commit, once it has one.
-    pub fn number(self) -> Option<u64>
-        ensures { result ≡ commit_number_if_decided (status_of_stage self) }
-    {
-        match self {
-            Stage::Open => None,
-            Stage::Decided(number) | Stage::Sealed(number) => Some(number),
         }
     }
 }

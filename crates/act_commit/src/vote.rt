@@ -6,7 +6,7 @@ ghost use Rattle.protocol.specs.OnBook.{marked, decided_as, sealed};
 ghost use Rattle.protocol.specs.Words.{holds, joined_of, is_value, is_decided, is_sealed};
 ghost use Rattle.protocol.specs.Effects.{ascending};
 ghost use Rattle.act_commit.specs.Changes.{marking_of, change_of, MayChange};
-ghost use Rattle.act_commit.specs.Words.{actor_numbers, commit_number_if_decided, is_undecided, is_ready};
+ghost use Rattle.act_commit.specs.Words.{actor_numbers, sealing_of, is_undecided, is_ready};
 
 use crate::seats::{Mark, Seat, are_vouched, note_on, seat_on, seats_on};
 use crate::sorted::actors_of;
@@ -183,11 +183,14 @@ impl Vote {
         self.stage.is_sealed()
     }
 
-    /// The number of its commit; `None` exactly where it is not decided.
-    pub fn number(&self) -> Option<u64>
-        ensures { result ≡ commit_number_if_decided self.now.status }
+    /// The number of its commit and how it ended, where it is sealed.
+    pub fn sealing(&self) -> Option<(u64, TxResult)>
+        ensures { result ≡ sealing_of self.now.status self.now.result }
     {
-        self.stage.number()
+        match self.stage {
+            Stage::Sealed(number) => Some((number, self.result)),
+            Stage::Open | Stage::Decided(_) => None,
+        }
     }
 
     /// The actors that the ACT joined, ascending.

@@ -1,8 +1,10 @@
 -- The live ACTs of a book, and the actors of one, as its halves show it.
 use Rattle.std.specs.Prelude.{◌≡◌, refl, ℕ, Bool, true, false, if◌then◌else◌, Option, Some, None, option_map, List, [], ◌∷◌, map, filter}
 use Rattle.std.proofs.Common.{sym, ap, subst, ◌∙◌}
-use Rattle.protocol.specs.Parts.{Act, Book}
-use Rattle.protocol.specs.Words.{act_of, is_live_act}
+use Rattle.std.proofs.lemmas.List.Elements.{filter_agree}
+use Rattle.protocol.specs.Conditions.{is_given_up}
+use Rattle.protocol.specs.Parts.{Act, Book, OfAct}
+use Rattle.protocol.specs.Words.{act_of, holds, is_doomed, is_live_act}
 use Rattle.protocol.specs.BookParts.{act_by, place_by, with_votes}
 use Rattle.protocol_theorems.specs.BookFits.{actors_at}
 use Rattle.protocol_laws.specs.OneWay.{actors_of}
@@ -12,6 +14,7 @@ use Rattle.order_book.specs.Asked.{joined_in}
 use Rattle.book_part.specs.Halves.{Halves, Shows}
 use Rattle.book_part.specs.Listed.{live_tids}
 use Rattle.book_part.proofs.Mapped.{map_each}
+use Rattle.book_part.proofs.Asked.{doomed_shown}
 use Rattle.book_part.proofs.Shown.{IsAt, is_book, answers}
 
 abbrev tids_in : List Act → List ℕ
@@ -30,6 +33,11 @@ live_with_votes vs (x ∷ xs) = by (is_live_act (act_by (act_of x.tid vs) x)) (i
 
 pub live_shown : (k h : Halves) → k ≡ h → (b : Book) → Shows h b → tids_in (filter is_live_act k.orders.acts) ≡ live_tids b
 live_shown k h i b s = sym (ap live_tids (is_book k b (subst (λ z. Shows z b) (sym i) s)) ∙ live_with_votes k.votes.acts k.orders.acts)
+
+pub given_up_shown : (k h : Halves) → k ≡ h → (b : Book) → Shows h b → filter (λ t. holds (λ x. is_doomed x.status) (act_of t k.orders.acts)) (tids_in (filter is_live_act k.orders.acts)) ≡ filter (λ t. is_given_up (OfAct t) b) (live_tids b)
+given_up_shown k h i b s =
+    filter_agree (λ t. holds (λ x. is_doomed x.status) (act_of t k.orders.acts)) (λ t. is_given_up (OfAct t) b) (λ t. doomed_shown k h i b t s) (tids_in (filter is_live_act k.orders.acts))
+    ∙ ap (filter (λ t. is_given_up (OfAct t) b)) (live_shown k h i b s)
 
 actors_by_votes : (x y : Option Act) → IsAt x y → actors_at (option_map (act_by y) x) ≡ actors_of (joined_in x)
 actors_by_votes None y e = refl

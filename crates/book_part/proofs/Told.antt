@@ -6,7 +6,7 @@ use Rattle.snap_base.specs.declared.transactions.TxResult.{TxResult}
 use Rattle.snap_base.specs.declared.verdicts.Verdict.{Verdict}
 use Rattle.protocol.specs.Parts.{Status, Live, Doomed, Decided, Sealed, Act, Book}
 use Rattle.protocol.specs.Records.{LogRecord, ActDone}
-use Rattle.protocol.specs.Words.{holds, count, act_of, is_live_act, is_value, value_of, is_doomed, is_ordered, is_sealed}
+use Rattle.protocol.specs.Words.{count, act_of, is_live_act, is_value, value_of, is_doomed, is_ordered}
 use Rattle.protocol.specs.Effects.{ascending, act_commit}
 use Rattle.protocol.specs.Verdicts.{verdict_of_act, act_verdict}
 use Rattle.protocol.specs.BookParts.{act_by, place_by, result_by}
@@ -14,9 +14,9 @@ use Rattle.protocol_theorems.specs.BookFits.{IsVoted, IsVotedBy, act_with, place
 use Rattle.protocol_theorems.proofs.Lemmas.{found_by, live_count, place_actor, verdict_of}
 use Rattle.book_part.proofs.Mapped.{map_each}
 use Rattle.order_book.specs.Asked.{before_of, doom_in, tid_of_act}
-use Rattle.act_commit.specs.Words.{actors_by, number_by, commit_number_if_decided}
+use Rattle.act_commit.specs.Words.{actors_by, sealing_by, sealing_of}
 use Rattle.book_part.specs.Halves.{Halves, Shows}
-use Rattle.book_part.specs.Told.{told_verdict, sealed_verdict, doom_or_votes}
+use Rattle.book_part.specs.Told.{told_verdict, sealed_verdict, votes_or_doom}
 use Rattle.book_part.proofs.Shown.{IsAt, is_book, stands, found_tid}
 
 -- ---- the commit record
@@ -40,25 +40,26 @@ abbrev pub verdict_at : Option Act → Option Act → Option Verdict
 verdict_at None y = None
 verdict_at (Some x) y = verdict_by y x.m x.status
 
-sealed_told : (m : ℕ) (r : Option TxResult) (st : Status) → is_doomed st ≡ false → sealed_verdict m (is_sealed st) (commit_number_if_decided st) r ≡ act_verdict st m r
+sealed_told : (m : ℕ) (r : Option TxResult) (st : Status) → is_doomed st ≡ false → sealed_verdict m (sealing_of st r) ≡ act_verdict st m r
 sealed_told m r Live d = refl
 sealed_told m r (Doomed why) d = absurd (true≢false d)
 sealed_told m r (Decided c) d = refl
-sealed_told m r (Sealed c) d = refl
+sealed_told m None (Sealed c) d = refl
+sealed_told m (Some r) (Sealed c) d = refl
 
-votes_told : (m : ℕ) (y : Option Act) (x : Act) → IsVotedBy y x → sealed_verdict m (holds (λ z. is_sealed z.status) y) (number_by y) (result_by y) ≡ placed_verdict y m
+votes_told : (m : ℕ) (y : Option Act) (x : Act) → IsVotedBy y x → sealed_verdict m (sealing_by y) ≡ placed_verdict y m
 votes_told m None x e = refl
 votes_told m (Some y) x e = sealed_told m y.result y.status e.undoomed
 
-of_status : (v : Option Verdict) (y : Option Act) (m : ℕ) (st : Status) → v ≡ placed_verdict y m → doom_or_votes (doom_in st) (is_ordered st) v ≡ verdict_by y m st
-of_status v y m Live e = refl
-of_status v y m (Doomed why) e = refl
-of_status v y m (Decided c) e = e
-of_status v y m (Sealed c) e = e
+of_status : (s : Option (ℕ × TxResult)) (y : Option Act) (m : ℕ) (st : Status) → sealed_verdict m s ≡ placed_verdict y m → votes_or_doom (if is_ordered st then Some m else None) (doom_in st) s ≡ verdict_by y m st
+of_status s y m Live e = refl
+of_status s y m (Doomed why) e = refl
+of_status s y m (Decided c) e = e
+of_status s y m (Sealed c) e = e
 
 pub told : (x y : Option Act) → IsAt x y → told_verdict x y ≡ verdict_at x y
 told None y e = refl
-told (Some x) y e = of_status _ y x.m x.status (votes_told x.m y x e.1)
+told (Some x) y e = of_status (sealing_by y) y x.m x.status (votes_told x.m y x e.1)
 
 pub shown_verdict : (h : Halves) (b : Book) (n : ℕ) → Shows h b → verdict_of_act n b.acts ≡ verdict_of_halves h.votes.acts (act_with n h.orders.acts)
 shown_verdict h b n s = ap (λ (b : Book). verdict_of_act n b.acts) (is_book h b s) ∙ verdict_of n h.votes.acts h.orders.acts s.0.fits.voted

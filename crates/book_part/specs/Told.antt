@@ -1,30 +1,27 @@
 -- What orders and votes tell together. Of an ACT each of them has its own part, or nothing.
-use Rattle.std.specs.Prelude.{ℕ, ◌&&◌, Bool, true, false, if◌then◌else◌, Option, Some, None}
+use Rattle.std.specs.Prelude.{ℕ, ◌&&◌, Bool, if◌then◌else◌, Option, Some, None}
 use Rattle.snap_base.specs.declared.transactions.TxResult.{TxResult}
 use Rattle.snap_base.specs.declared.verdicts.Verdict.{Verdict}
 use Rattle.protocol.specs.Verdicts.{ended_at, act_place}
 use Rattle.protocol.specs.Parts.{Act}
-use Rattle.protocol.specs.Words.{holds, is_ordered, is_sealed}
-use Rattle.protocol.specs.BookParts.{result_by}
-use Rattle.order_book.specs.Asked.{doom_of, before_of}
-use Rattle.act_commit.specs.Words.{number_by}
+use Rattle.order_book.specs.Asked.{doom_of, place_of}
+use Rattle.act_commit.specs.Words.{sealing_by}
 
 -- ---- the verdict of an ACT
 
--- of a sealed one with this before number: its commit's number and its result tell
-abbrev pub sealed_verdict : ℕ → Bool → Option ℕ → Option TxResult → Option Verdict
-sealed_verdict m false c r = None
-sealed_verdict m true None r = None
-sealed_verdict m true (Some c) r = ended_at (act_place m c) r
+-- of one with this before number: its commit's number and its result tell, where it is sealed
+abbrev pub sealed_verdict : ℕ → Option (ℕ × TxResult) → Option Verdict
+sealed_verdict m None = None
+sealed_verdict m (Some s) = ended_at (act_place m s.0) (Some s.1)
 
--- a doom tells, and of one that has its place the votes
-abbrev pub doom_or_votes : Option Verdict → Bool → Option Verdict → Option Verdict
-doom_or_votes None placed told = if placed then told else None
-doom_or_votes (Some why) placed told = Some why
+-- of one that has its place the votes tell, and of any other a doom
+abbrev pub votes_or_doom : Option ℕ → Option Verdict → Option (ℕ × TxResult) → Option Verdict
+votes_or_doom None doom sealing = doom
+votes_or_doom (Some m) doom sealing = sealed_verdict m sealing
 
 -- of an ACT as orders and votes have it
 abbrev pub told_verdict : Option Act → Option Act → Option Verdict
-told_verdict x y = doom_or_votes (doom_of x) (holds (λ z. is_ordered z.status) x) (sealed_verdict (before_of x) (holds (λ z. is_sealed z.status) y) (number_by y) (result_by y))
+told_verdict x y = votes_or_doom (place_of x) (doom_of x) (sealing_by y)
 
 -- ---- how many events its status may still bring
 

@@ -17,7 +17,7 @@ use crate::commit::Commit;
 use crate::marks::has_joined;
 use crate::part::BookPart;
 use crate::results::{is_failure, is_value, value_of};
-use crate::verdicts::{doom_or_votes, sealed_verdict};
+use crate::verdicts::sealed_verdict;
 use snap_base::{ActorId, Bid, Memory, Tid, TxNo, Verdict, Who};
 use std::alloc::Global;
 
@@ -218,12 +218,9 @@ impl BookPart {
     fn verdict_of(&self, t: Tid) -> Option<Verdict>
         ensures { result ≡ told_verdict (act_of t.0 self.now.orders.acts) (act_of t.0 self.now.votes.acts) }
     {
-        let by_votes = sealed_verdict(
-            self.orders.before(t),
-            self.votes.is_sealed(t),
-            self.votes.commit_number(t),
-            self.votes.result(t),
-        );
-        doom_or_votes(self.orders.doomed(t), self.orders.is_placed(t), by_votes)
+        match self.orders.standing(t) {
+            (_, Some(before)) => sealed_verdict(before, self.votes.sealing(t)),
+            (doom, None) => doom,
+        }
     }
 }

@@ -1,10 +1,11 @@
 //! What is asked of the book when all events that ACTs may have are looked for. Each answer is about whatever book the
 //! halves show.
-ghost use Rattle.std.specs.Prelude.{◌≡◌, ◌||◌, map, is_some, IfOk};
+ghost use Rattle.std.specs.Prelude.{◌≡◌, map, filter, IfOk};
 ghost use Rattle.std.specs.Option.{option_map};
 ghost use Rattle.protocol.specs.Meant.{tid_number};
-ghost use Rattle.protocol.specs.Parts.{Book};
-ghost use Rattle.protocol.specs.Words.{act_of, holds, is_doomed};
+ghost use Rattle.protocol.specs.Conditions.{is_given_up};
+ghost use Rattle.protocol.specs.Parts.{Book, OfAct};
+ghost use Rattle.protocol.specs.Words.{act_of};
 ghost use Rattle.protocol_theorems.specs.BookFits.{actors_at};
 ghost use Rattle.order_book.specs.Asked.{tx_of};
 ghost use Rattle.order_book.specs.Fates.{tx_number};
@@ -27,19 +28,21 @@ impl BookPart {
         Ok(tids)
     }
 
+    /// The live ACTs that are given up, in the order of their tids. It walks the ACTs from the oldest live one on, and no
+    /// older one.
+    pub fn given_up(&self, alloc: Global) -> Result<Vec<Tid>, Memory>
+        ensures { IfOk result (λ tids. (b : Book) → Shows self.now b → map tid_number tids.items ≡ filter (λ t. is_given_up (OfAct t) b) (live_tids b)) }
+    {
+        let tids = self.orders.given_up(alloc)?;
+        Ok(tids)
+    }
+
     /// The actors that ACT `t` has joined, in the order in which it did; none where there is no such ACT.
     pub fn actors_of(&self, alloc: Global, t: Tid) -> Result<Vec<ActorId>, Memory>
         ensures { IfOk result (λ actors. (b : Book) → Shows self.now b → actor_numbers actors.items ≡ actors_at (act_of t.0 b.acts)) }
     {
         let actors = joined_actors(alloc, self.orders.joined(t))?;
         Ok(actors)
-    }
-
-    /// Whether ACT `t` ended or is given up. Of one that did neither nothing is to be voted on, decided, sealed or left.
-    pub fn has_begun(&self, t: Tid) -> bool
-        ensures { (b : Book) → Shows self.now b → result ≡ holds (λ x. is_some x.result || is_doomed x.status) (act_of t.0 b.acts) }
-    {
-        self.votes.result(t).is_some() || self.orders.is_given_up(t)
     }
 
     /// The transaction of ACT `t`; `None` where there is no such ACT.

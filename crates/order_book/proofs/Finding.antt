@@ -119,6 +119,15 @@ only_one t (x ∷ xs) up = (
       up.0 (only_one t xs up.1),
 )
 
+pub each_found : (acts : List Act) → Ascends (tids_of_acts acts) → AllByRecursion (λ (x : Act). act_of x.tid acts ≡ Some x) acts
+each_found [] up = tt
+each_found (x ∷ xs) up = (
+  cond-true (x.tid == x.tid) (Some x) (act_of x.tid xs) (eq-eqb x.tid x.tid refl),
+  all_with x.tid (λ (y : Act). act_of y.tid xs ≡ Some y) (λ (y : Act). act_of y.tid (x ∷ xs) ≡ Some y) xs
+      (λ y above this. cond-false (x.tid == y.tid) (Some x) (act_of y.tid xs) (ne_eqb x.tid y.tid (λ (same : x.tid ≡ y.tid). omega (arith, above, same))) ∙ this)
+      up.0 (each_found xs up.1),
+)
+
 pub placed_at : (t : ℕ) (acts : List Act) → Ascends (tids_of_acts acts) → IsPlaceOfAct t (position_or_len (λ n. n == t) (tids_of_acts acts)) acts
 placed_at t acts up = record { found = found_at t acts; changes = λ f. changes_there t f acts up; only = only_one t acts up }
 

@@ -9,3 +9,4 @@ pub mod Walked
 pub mod Lowering
 pub mod Booked
 pub mod Living
+pub mod Crossing

@@ -1,9 +1,14 @@
 -- Live ACTs, counted from the end.
-use Rattle.std.proofs.Common.{◌≡◌, ℕ, zero, suc, ◌+◌, ◌-◌, ◌<◌, ◌≤◌, Bool, true, false, cond, List, [], ◌∷◌, ◌++◌, length, map, take, drop, refl, ap, ◌∙◌, arith}
-use Rattle.std.specs.Prelude.{filter, slice_index_or}
+use Rattle.std.proofs.Common.{Some, ◌≡◌, ℕ, zero, suc, ◌+◌, ◌-◌, ◌<◌, ◌≤◌, Bool, true, false, cond, List, [], ◌∷◌, ◌++◌, length, map, take, drop, refl, ap, sym, ◌∙◌, arith}
+use Rattle.std.specs.Prelude.{◌&&◌, filter, slice_index_or}
+use Rattle.std.specs.List.{AllByRecursion}
+use Rattle.std.proofs.lemmas.Bool.{cond-true, cond-false}
 use Rattle.std.proofs.lemmas.List.{take-append-drop, drop_more}
-use Rattle.protocol.specs.Words.{count, is_live_act}
-use Rattle.order_book.specs.Kept.{Kept, seen, is_live_kept, tid_kept}
+use Rattle.protocol.specs.Words.{count, act_of, holds, is_doomed, is_live_act}
+use Rattle.protocol.specs.Cutting.{Ascends}
+use Rattle.protocol.specs.Parts.{Act}
+use Rattle.order_book.proofs.Finding.{each_found}
+use Rattle.order_book.specs.Kept.{Kept, seen, is_leaving, is_leaving_kept, is_live_kept, tid_kept}
 use Rattle.protocol.specs.Numbers.{one_if}
 use Rattle.order_book.specs.Registered.{tids_of_acts}
 
@@ -75,3 +80,48 @@ live_count_seen epoch xs = ap length (live_seen epoch xs) ∙ same_length epoch 
 
 pub live_tids_seen : (epoch : ℕ) (xs : List Kept) → tids_of_acts (filter is_live_act (map (seen epoch) xs)) ≡ map tid_kept (filter is_live_kept xs)
 live_tids_seen epoch xs = ap tids_of_acts (live_seen epoch xs) ∙ tids_seen epoch (filter is_live_kept xs)
+
+-- ---- those of the live ones that are given up
+
+module _ {X : Type 0} (p q : X → Bool) where
+  by_tests : (b c : Bool) (x : X) (xs ys : List X) → q x ≡ c → xs ≡ filter q ys → cond (c && b) (x ∷ xs) xs ≡ filter q (cond b (x ∷ ys) ys)
+  by_tests true true x xs ys k e = ap (λ l. x ∷ l) e ∙ sym (cond-true (q x) (x ∷ filter q ys) (filter q ys) k)
+  by_tests true false x xs ys k e = e ∙ sym (cond-false (q x) (x ∷ filter q ys) (filter q ys) k)
+  by_tests false true x xs ys k e = e
+  by_tests false false x xs ys k e = e
+
+  filter_both : (xs : List X) → filter (λ x. q x && p x) xs ≡ filter q (filter p xs)
+  filter_both [] = refl
+  filter_both (x ∷ xs) = by_tests (p x) (q x) x (filter (λ x. q x && p x) xs) (filter p xs) refl (filter_both xs)
+
+doomed_kept : Kept → Bool
+doomed_kept x = is_doomed x.act.status
+
+pub none_leaving : (xs : List Kept) → filter is_live_kept xs ≡ [] → filter is_leaving_kept xs ≡ []
+unfolding doomed_kept
+none_leaving xs none = filter_both is_live_kept doomed_kept xs ∙ ap (filter doomed_kept) none
+
+leaving_seen : (epoch : ℕ) (xs : List Kept) → filter is_leaving (map (seen epoch) xs) ≡ map (seen epoch) (filter is_leaving_kept xs)
+leaving_seen epoch [] = refl
+leaving_seen epoch (x ∷ xs) =
+    ap (λ l. cond (is_leaving_kept x) (seen epoch x ∷ l) l) (leaving_seen epoch xs)
+    ∙ by_test (is_leaving_kept x) x epoch (filter is_leaving_kept xs) (filter is_leaving_kept xs) refl
+
+pub leaving_tids_seen : (epoch : ℕ) (xs : List Kept) → tids_of_acts (filter is_leaving (map (seen epoch) xs)) ≡ map tid_kept (filter is_leaving_kept xs)
+leaving_tids_seen epoch xs = ap tids_of_acts (leaving_seen epoch xs) ∙ tids_seen epoch (filter is_leaving_kept xs)
+
+by_doom : (f : ℕ → Bool) (d b : Bool) (x : Act) (ys zs : List Act) → f x.tid ≡ d → tids_of_acts ys ≡ filter f (tids_of_acts zs) → tids_of_acts (cond (d && b) (x ∷ ys) ys) ≡ filter f (tids_of_acts (cond b (x ∷ zs) zs))
+by_doom f true true x ys zs k e = ap (λ l. x.tid ∷ l) e ∙ sym (cond-true (f x.tid) (x.tid ∷ filter f (tids_of_acts zs)) (filter f (tids_of_acts zs)) k)
+by_doom f false true x ys zs k e = e ∙ sym (cond-false (f x.tid) (x.tid ∷ filter f (tids_of_acts zs)) (filter f (tids_of_acts zs)) k)
+by_doom f true false x ys zs k e = e
+by_doom f false false x ys zs k e = e
+
+among : (acts xs : List Act) → AllByRecursion (λ x. act_of x.tid acts ≡ Some x) xs → tids_of_acts (filter is_leaving xs) ≡ filter (λ t. holds (λ x. is_doomed x.status) (act_of t acts)) (tids_of_acts (filter is_live_act xs))
+among acts [] found = refl
+among acts (x ∷ xs) found =
+    by_doom (λ t. holds (λ y. is_doomed y.status) (act_of t acts)) (is_doomed x.status) (is_live_act x) x (filter is_leaving xs) (filter is_live_act xs)
+    (ap (holds (λ y. is_doomed y.status)) found.0) (among acts xs found.1)
+
+-- with rising tids each is found by its own
+pub given_up_among : (acts : List Act) → Ascends (tids_of_acts acts) → tids_of_acts (filter is_leaving acts) ≡ filter (λ t. holds (λ x. is_doomed x.status) (act_of t acts)) (tids_of_acts (filter is_live_act acts))
+given_up_among acts up = among acts acts (each_found acts up)

@@ -1,10 +1,11 @@
 -- What the book is asked.
-use Rattle.std.specs.Prelude.{◌≡◌, ℕ, false, Option, Some, None, List, [], ◌∷◌, map}
+use Rattle.std.specs.Prelude.{◌≡◌, ℕ, false, if◌then◌else◌, Option, Some, None, List, [], ◌∷◌, map}
 use Rattle.snap_base.specs.declared.ids.Tid.{Tid}
 use Rattle.snap_base.specs.declared.verdicts.Verdict.{Verdict}
 use Rattle.protocol.specs.Meant.{tid_number}
 use Rattle.protocol.specs.Rivals.{Lock}
 use Rattle.protocol.specs.Parts.{Joined, Status, Live, Doomed, Decided, Sealed, Act}
+use Rattle.protocol.specs.Words.{is_ordered}
 use Rattle.order_book.specs.declared.answer.Answer.{Answer}
 use Rattle.order_book.specs.declared.answer.Answer.TheVariants.{Free, Die, Wait}
 
@@ -45,6 +46,14 @@ doom_of (Some x) = doom_in x.status
 abbrev pub before_of : Option Act → ℕ
 before_of None = 0
 before_of (Some x) = x.m
+
+-- its before number, where it has its place in the serial order
+abbrev pub place_in : Act → Option ℕ
+place_in x = if is_ordered x.status then Some x.m else None
+
+abbrev pub place_of : Option Act → Option ℕ
+place_of None = None
+place_of (Some x) = place_in x
 
 -- its after number
 abbrev pub after_of : Option Act → Option ℕ

@@ -1,8 +1,8 @@
 -- How the book keeps an ACT: its after number with the number of cascades there were when it was set, so that a cascade
 -- forgets the after numbers of all ACTs at once.
-use Rattle.std.specs.Prelude.{ℕ, ◌==◌, ◌≤◌, Bool, if◌then◌else◌, None}
+use Rattle.std.specs.Prelude.{ℕ, ◌==◌, ◌≤◌, ◌&&◌, Bool, if◌then◌else◌, None}
 use Rattle.protocol.specs.Parts.{Act}
-use Rattle.protocol.specs.Words.{is_live_act}
+use Rattle.protocol.specs.Words.{is_doomed, is_live_act}
 
 pub record Kept : Type 0 where
   pub act : Act
@@ -28,3 +28,10 @@ is_live_kept x = is_live_act x.act
 
 abbrev pub tid_kept : Kept → ℕ
 tid_kept x = x.act.tid
+
+-- it is given up and has an actor still to leave
+abbrev pub is_leaving : Act → Bool
+is_leaving x = is_doomed x.status && is_live_act x
+
+abbrev pub is_leaving_kept : Kept → Bool
+is_leaving_kept x = is_leaving x.act

@@ -4,9 +4,10 @@ ghost use Rattle.std.specs.List.{list_all};
 ghost use Rattle.std.specs.Option.{option_map};
 ghost use Rattle.protocol.specs.Words.{is_doomed, is_live_status, is_ordered, is_sealed, is_live_act, joined_of, holds, least_of};
 ghost use Rattle.protocol.specs.OnBook.{mark_if, has_left, new_act, joins, doomed_by, marked};
-ghost use Rattle.order_book.specs.Asked.{doom_in};
+ghost use Rattle.protocol.specs.Spread.{reaches};
+ghost use Rattle.order_book.specs.Asked.{doom_in, place_in};
 ghost use Rattle.order_book.specs.Fates.{bid_number, status_of_fate};
-ghost use Rattle.order_book.specs.Kept.{seen, without_after, IsUnder};
+ghost use Rattle.order_book.specs.Kept.{is_leaving, seen, without_after, IsUnder};
 ghost use Rattle.order_book.specs.Changes.{changed_by, lowered_to};
 ghost use Rattle.order_book.specs.Walking.{is_walked};
 
@@ -155,6 +156,17 @@ impl Act {
         self.marks.as_slice()
     }
 
+    /// The batches that stand before it, up to this one, where it has its place.
+    pub(crate) fn place(&self) -> Option<Bid>
+        ensures { option_map bid_number result ≡ place_in self.now.act }
+    {
+        if self.fate.is_placed() {
+            Some(self.before)
+        } else {
+            None
+        }
+    }
+
     pub(crate) fn doom(&self) -> Option<Verdict>
         ensures { result ≡ doom_in self.now.act.status }
     {
@@ -193,6 +205,23 @@ impl Act {
             !self.fate.is_given_up()
         } else {
             !all_finished(self.marks.as_slice())
+        }
+    }
+
+    /// Whether it is given up and has an actor still to leave.
+    pub(crate) fn is_leaving(&self) -> bool
+        ensures { result ≡ is_leaving self.now.act }
+    {
+        self.fate.is_given_up() && self.is_live()
+    }
+
+    /// Whether its numbers cross, after so many cascades.
+    pub(crate) fn reaches(&self, epoch: u64) -> bool
+        ensures { result ≡ reaches (seen epoch self.now).m (seen epoch self.now).n }
+    {
+        match self.after(epoch) {
+            Some(after) => after.0 <= self.before.0,
+            None => false,
         }
     }
 

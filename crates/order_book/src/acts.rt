@@ -1,9 +1,10 @@
 //! The ACTs by their places in the list.
-ghost use Rattle.std.specs.Prelude.{◌≡◌, ℕ, ◌==◌, ◌≤◌, ◌+◌, not, List, [], ◌∷◌, ◌++◌, length, map, max, if◌then◌else◌, is_ok, is_some, slice_get, option_copied, OnOk, OnErr};
+ghost use Rattle.std.specs.Prelude.{◌≡◌, ℕ, ◌==◌, ◌≤◌, ◌+◌, not, List, [], ◌∷◌, ◌++◌, length, map, max, if◌then◌else◌, true, is_ok, is_some, slice_get, option_copied, OnOk, OnErr};
 ghost use Rattle.std.specs.Option.{option_map};
 ghost use Rattle.protocol.specs.Words.{is_doomed, is_live_status, is_ordered, is_live_act, joined_of, holds};
 ghost use Rattle.protocol.specs.OnBook.{new_act, joins};
-ghost use Rattle.order_book.specs.Asked.{doom_of, before_of, after_of, tx_of, joined_in};
+ghost use Rattle.protocol.specs.Spread.{reaches};
+ghost use Rattle.order_book.specs.Asked.{doom_of, before_of, after_of, tx_of, joined_in, place_of};
 ghost use Rattle.order_book.specs.Fates.{bid_number, tx_number};
 ghost use Rattle.order_book.specs.Kept.{without_after, forgotten, seen};
 ghost use Rattle.order_book.specs.Changes.{changed_by, changed_at};
@@ -192,12 +193,14 @@ impl Acts {
         }
     }
 
-    pub(crate) fn doom(&self, at: usize) -> Option<Verdict>
-        ensures { result ≡ doom_of (slice_get self.now at) }
+    /// Why the ACT at this place is given up, and the greatest batch before it where it has its place.
+    pub(crate) fn standing(&self, at: usize) -> (Option<Verdict>, Option<Bid>)
+        ensures doom { result.0 ≡ doom_of (slice_get self.now at) }
+        ensures place { option_map bid_number result.1 ≡ place_of (slice_get self.now at) }
     {
         match self.rows.get(at) {
-            Some(row) => row.doom(),
-            None => None,
+            Some(row) => (row.doom(), row.place()),
+            None => (None, None),
         }
     }
 
@@ -217,6 +220,25 @@ impl Acts {
         match self.rows.get(at) {
             Some(row) => row.after(self.epoch),
             None => None,
+        }
+    }
+
+    fn reaches(&self, at: usize) -> bool
+        ensures { result ≡ holds (λ x. reaches x.m x.n) (slice_get self.now at) }
+    {
+        match self.rows.get(at) {
+            Some(row) => row.reaches(self.epoch),
+            None => false,
+        }
+    }
+
+    /// Whether this leaves the ACT at this place as it is, as is seen at once.
+    pub(crate) fn is_left(&self, at: usize, change: Change) -> bool
+        ensures { result ≡ true → changed_at at (changed_by change) self.now ≡ self.now }
+    {
+        match change {
+            Change::Cross(_) => !self.reaches(at),
+            _ => false,
         }
     }
 

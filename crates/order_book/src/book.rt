@@ -4,11 +4,11 @@ ghost use Rattle.std.specs.List.{All};
 ghost use Rattle.std.specs.Option.{option_map};
 ghost use Rattle.protocol.specs.Meant.{tid_number};
 ghost use Rattle.protocol.specs.Rivals.{Lock};
-ghost use Rattle.protocol.specs.Words.{act_of, count, holds, is_doomed, is_live_act, is_live_status, is_ordered, joined_of};
+ghost use Rattle.protocol.specs.Words.{act_of, count, holds, is_doomed, is_live_act, is_live_status, joined_of};
 ghost use Rattle.protocol.specs.Verdicts.{died};
 ghost use Rattle.protocol.specs.OnBook.{act_admitted, act_asked, act_finished, batch_arrived, changed_act, doomed_by};
 ghost use Rattle.protocol.specs.BookParts.{no_orders, has_place, orders_cascaded};
-ghost use Rattle.order_book.specs.Asked.{AreLocksOf, doom_of, before_of, after_of, tx_of, joined_in, tid_of_act};
+ghost use Rattle.order_book.specs.Asked.{AreLocksOf, doom_of, before_of, after_of, tx_of, joined_in, place_of, tid_of_act};
 ghost use Rattle.order_book.specs.Fates.{bid_number, tx_number};
 ghost use Rattle.order_book.specs.Kept.{seen};
 
@@ -241,14 +241,6 @@ impl Book {
         self.register.acts().is_live(at)
     }
 
-    /// Whether ACT `t` has its place in the serial order.
-    pub fn is_placed(&self, t: Tid) -> bool
-        ensures { result ≡ holds (λ x. is_ordered x.status) (act_of t.0 self.now.acts) }
-    {
-        let at = self.register.place_of(t);
-        self.register.acts().is_placed(at)
-    }
-
     /// Whether ACT `t` is given up.
     pub fn is_given_up(&self, t: Tid) -> bool
         ensures { result ≡ holds (λ x. is_doomed x.status) (act_of t.0 self.now.acts) }
@@ -273,12 +265,13 @@ impl Book {
         self.register.acts().is_undecided(at)
     }
 
-    /// Why ACT `t` is given up; `None` exactly where it is not.
-    pub fn doomed(&self, t: Tid) -> Option<Verdict>
-        ensures { result ≡ doom_of (act_of t.0 self.now.acts) }
+    /// Why ACT `t` is given up, and the greatest batch that stands before it where it has its place in the serial order.
+    pub fn standing(&self, t: Tid) -> (Option<Verdict>, Option<Bid>)
+        ensures doom { result.0 ≡ doom_of (act_of t.0 self.now.acts) }
+        ensures place { option_map bid_number result.1 ≡ place_of (act_of t.0 self.now.acts) }
     {
         let at = self.register.place_of(t);
-        self.register.acts().doom(at)
+        self.register.acts().standing(at)
     }
 
     /// The greatest batch that stands before ACT `t`; 0 where there is no such ACT.

@@ -1,8 +1,8 @@
 //! What is asked of the orders when all events that ACTs may have are looked for.
 ghost use Rattle.std.specs.Prelude.{◌≡◌, ◌≤◌, [], map, take, filter, length, IfOk};
 ghost use Rattle.protocol.specs.Meant.{tid_number};
-ghost use Rattle.protocol.specs.Words.{count, is_live_act};
-ghost use Rattle.order_book.specs.Kept.{is_live_kept, tid_kept};
+ghost use Rattle.protocol.specs.Words.{act_of, count, holds, is_doomed, is_live_act};
+ghost use Rattle.order_book.specs.Kept.{is_leaving, is_leaving_kept, is_live_kept, tid_kept};
 ghost use Rattle.order_book.specs.Registered.{tids_of_acts};
 
 use crate::act::Act;
@@ -20,6 +20,14 @@ impl Book {
         let live = self.register.live();
         self.register.acts().going(alloc, live)
     }
+
+    /// The live ACTs that are given up, in the order of their tids. It walks the ACTs from the oldest live one on, and no
+    /// older one.
+    pub fn given_up(&self, alloc: Global) -> Result<Vec<Tid>, Memory>
+        ensures { IfOk result (λ tids. map tid_number tids.items ≡ filter (λ t. holds (λ x. is_doomed x.status) (act_of t self.now.acts)) (tids_of_acts (filter is_live_act self.now.acts))) }
+    {
+        self.register.given_up(alloc)
+    }
 }
 
 impl Acts {
@@ -30,7 +38,18 @@ impl Acts {
     {
         let rows = self.rows.as_slice();
         let first = first_live(rows, live);
-        let tids = going_from(alloc, rows, first)?;
+        let tids = going_from(alloc, rows, first, live)?;
+        Ok(tids)
+    }
+
+    /// Those of the live ones that are given up, where so many are live.
+    pub(crate) fn leaving(&self, alloc: Global, live: usize) -> Result<Vec<Tid>, Memory>
+        requires { live ≡ count is_live_act self.now }
+        ensures { IfOk result (λ tids. map tid_number tids.items ≡ tids_of_acts (filter is_leaving self.now)) }
+    {
+        let rows = self.rows.as_slice();
+        let first = first_live(rows, live);
+        let tids = leaving_from(alloc, rows, first)?;
         Ok(tids)
     }
 }
@@ -52,15 +71,30 @@ fn first_live(rows: &[Act], live: usize) -> usize
     first
 }
 
-/// The live ones, where none before this place is live.
-fn going_from(alloc: Global, rows: &[Act], first: usize) -> Result<Vec<Tid>, Memory>
+/// The live ones, about so many, where none before this place is live.
+fn going_from(alloc: Global, rows: &[Act], first: usize, live: usize) -> Result<Vec<Tid>, Memory>
     requires within { first ≤ length rows.now }
     requires none { filter is_live_kept (take first rows.now) ≡ [] }
     ensures { IfOk result (λ tids. map tid_number tids.items ≡ map tid_kept (filter is_live_kept rows.now)) }
 {
-    let mut tids = Vec::new(alloc);
+    let mut tids = Vec::with_capacity(alloc, live)?;
     for at in first..rows.len() {
         if rows[at].is_live() {
+            tids.push(rows[at].tid())?;
+        }
+    }
+    Ok(tids)
+}
+
+/// Those of the live ones that are given up, where none before this place is live.
+fn leaving_from(alloc: Global, rows: &[Act], first: usize) -> Result<Vec<Tid>, Memory>
+    requires within { first ≤ length rows.now }
+    requires none { filter is_live_kept (take first rows.now) ≡ [] }
+    ensures { IfOk result (λ tids. map tid_number tids.items ≡ map tid_kept (filter is_leaving_kept rows.now)) }
+{
+    let mut tids = Vec::new(alloc);
+    for at in first..rows.len() {
+        if rows[at].is_leaving() {
             tids.push(rows[at].tid())?;
         }
     }

@@ -1,5 +1,5 @@
 //! All ACTs, found by tid and by transaction.
-ghost use Rattle.std.specs.Prelude.{◌≡◌, ◌<◌, ◌≤◌, ◌+◌, ◌==◌, ◌^◌, ℕ, map, List, [], ◌∷◌, ◌++◌, length, if◌then◌else◌, OnOk, OnErr, slice_get, slice_index, slice_index_or, find, IfSome, None, drop, vec_len, vec_capacity};
+ghost use Rattle.std.specs.Prelude.{◌≡◌, ◌<◌, ◌≤◌, ◌+◌, ◌==◌, ◌^◌, ℕ, map, List, [], ◌∷◌, ◌++◌, length, if◌then◌else◌, filter, IfOk, OnOk, OnErr, slice_get, slice_index, slice_index_or, find, IfSome, None, drop, vec_len, vec_capacity};
 ghost use Rattle.std.specs.List.{All, position_or_len};
 ghost use Rattle.std.specs.Option.{option_map};
 ghost use Rattle.protocol.specs.Cutting.{Ascends};
@@ -89,6 +89,14 @@ impl Register {
         self.acts.is_given_up(at)
     }
 
+    /// The live ones that are given up, in the order of their tids.
+    pub(crate) fn given_up(&self, alloc: Global) -> Result<Vec<Tid>, Memory>
+        ensures { IfOk result (λ tids. map tid_number tids.items ≡ filter (λ t. holds (λ x. is_doomed x.status) (act_of t self.now)) (tids_of_acts (filter is_live_act self.now))) }
+    {
+        let tids = self.acts.leaving(alloc, self.live)?;
+        Ok(tids)
+    }
+
     /// The tid of the first ACT of a transaction.
     pub(crate) fn act_with(&self, tx: TxNo) -> Option<Tid>
         ensures first { option_map tid_number result ≡ tid_of_act (find (λ x. x.tx == tx.0) self.now) }
@@ -129,6 +137,9 @@ impl Register {
     pub(crate) fn change(&mut self, at: usize, change: Change)
         ensures { self.new ≡ changed_at at (changed_by change) self.old }
     {
+        if self.acts.is_left(at, change) {
+            return;
+        }
         let was = self.acts.is_live(at);
         self.acts.change(at, change);
         let is = self.acts.is_live(at);

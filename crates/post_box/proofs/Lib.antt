@@ -4,3 +4,4 @@ pub mod ByKey
 pub mod Machine
 pub mod Sorted
 pub mod Totals
+pub mod Tallied

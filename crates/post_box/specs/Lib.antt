@@ -5,3 +5,4 @@ pub mod PostBox
 pub mod Shown
 pub mod Posting
 pub mod Listed
+pub mod Tally

@@ -12,6 +12,7 @@ mod listing;
 mod numbered;
 mod post;
 mod posted;
+mod tally;
 
 pub use head::SubHead;
 pub use post::Post;

@@ -10,6 +10,7 @@ use crate::head::SubHead;
 use crate::kept::{Control, SubRest, parted, whole};
 use crate::keys::SubKey;
 use crate::posted::Posted;
+use crate::tally::{count_in, count_out, no_counts};
 use snap_base::{ActorId, Bid, Memory, SubBatch, Tid, Who};
 use std::alloc::Global;
 use std::marker::Model;
@@ -20,6 +21,8 @@ use std::marker::Model;
 pub struct Post<C> {
     pub(crate) subs: Posted<SubKey, SubRest>,
     pub(crate) controls: Posted<Tid, Control<C>>,
+    /// Of each of the first actors a number that is no less than that of the sub-batches under way to it.
+    pub(crate) counts: Vec<u64>,
 }
 
 impl<C> Model for Post<C> {
@@ -31,6 +34,10 @@ impl<C> Model for Post<C> {
     ghost use Rattle.post_box.specs.Shown.{sub_shown, control_shown};
 
     ghost view = { λ p. record { messages = record { subs = map sub_shown p.subs.entries; controls = map control_shown p.controls.entries }; spare_subs = p.subs.spare; spare_controls = p.controls.spare } };
+
+    ghost use Rattle.post_box.specs.Tally.{IsTally};
+
+    ghost invariant = { λ p. IsTally p.counts.items p.subs.entries };
 }
 
 impl<C: Drop> Post<C> {
@@ -41,6 +48,7 @@ impl<C: Drop> Post<C> {
         Ok(Post {
             subs: Posted::new(alloc)?,
             controls: Posted::new(alloc)?,
+            counts: no_counts(alloc)?,
         })
     }
 
@@ -68,9 +76,13 @@ impl<C: Drop> Post<C> {
         ensures spare { self.old.spare_subs ≤ self.new.spare_subs + 1 }
         ensures other { self.new.spare_controls ≡ self.old.spare_controls }
     {
+        let a = s.actor;
         let (key, rest) = parted(s);
         match self.subs.put(key, rest) {
-            Ok(()) => Ok(()),
+            Ok(()) => {
+                count_in(&mut self.counts, a);
+                Ok(())
+            }
             Err(rest) => Err((whole(key, rest), Memory)),
         }
     }
@@ -132,6 +144,7 @@ impl<C: Drop> Post<C> {
     {
         let key = SubKey { bid, actor: a };
         let rest = self.subs.take(&key)?;
+        count_out(&mut self.counts, a);
         Some(whole(key, rest))
     }
 
