@@ -10,10 +10,11 @@ use Rattle.protocol.specs.Parts.{Batch}
 use Rattle.protocol.specs.Words.{names_pact, result_among, pact_result}
 use Rattle.protocol.specs.OnDesk.{with_results}
 use Rattle.batch_table.specs.Joining.{pact_tids, batch_tids, first_or_zero}
+use Rattle.batch_table.specs.Listed.{tx_named, pact_tx}
 use Rattle.batch_table.specs.Places.{IsPlaceOfTid, IsTidNowhere}
 use Rattle.batch_table.specs.Sound.{TidsAscend}
 use Rattle.batch_table.proofs.ByNumber.{cons_same}
-use Rattle.batch_table.proofs.EndedPacts.{AreWithout, below_without, above_without, without_names, unnamed_result, batch_unnoted}
+use Rattle.batch_table.proofs.EndedPacts.{AreWithout, below_without, above_without, without_names, unnamed_result, unnamed_tx, batch_unnoted}
 
 abbrev pub first_tid : Batch → ℕ
 first_tid b = first_or_zero (pact_tids b.pacts)
@@ -35,6 +36,10 @@ all_unnoted t r (b ∷ bs) h = cons_same (with_results t r b) b (map (with_resul
 pub no_result : (t : ℕ) (bs : List Batch) → AllWithout t bs → pact_result t bs ≡ None
 no_result t [] h = refl
 no_result t (b ∷ bs) h = cond-false (names_pact t b) (result_among t b.pacts) (pact_result t bs) (without_names t b.pacts h.0) ∙ no_result t bs h.1
+
+pub no_tx : (t : ℕ) (bs : List Batch) → AllWithout t bs → pact_tx t bs ≡ None
+no_tx t [] h = refl
+no_tx t (b ∷ bs) h = cond-false (names_pact t b) (tx_named t b.pacts) (pact_tx t bs) (without_names t b.pacts h.0) ∙ no_tx t bs h.1
 
 -- ---- first tids ascend
 
@@ -65,11 +70,15 @@ behind_without t low d (b ∷ bs) h above = rest_without t (first_tid b) (b ∷ 
 pub tid_nowhere : (t low : ℕ) (d : Batch) (bs : List Batch) → TidsAscend low (batch_tids bs) → (0 < length bs → t < first_tid (slice_index_or bs 0 d)) → IsTidNowhere t bs
 tid_nowhere t low d bs h above =
     let w = behind_without t low d bs h above in
-    record { result = no_result t bs w; noted = λ r. all_unnoted t r bs w }
+    record { result = no_result t bs w; tx = no_tx t bs w; noted = λ r. all_unnoted t r bs w }
 
 first_result : (t : ℕ) (b : Batch) (bs : List Batch) → AllWithout t bs → pact_result t (b ∷ bs) ≡ result_among t b.pacts
 first_result t b bs w =
     cond_both (names_pact t b) (result_among t b.pacts) (pact_result t bs) (λ x. x ≡ result_among t b.pacts) (λ e. refl) (λ e. no_result t bs w ∙ sym (unnamed_result t b.pacts e))
+
+first_tx : (t : ℕ) (b : Batch) (bs : List Batch) → AllWithout t bs → pact_tx t (b ∷ bs) ≡ tx_named t b.pacts
+first_tx t b bs w =
+    cond_both (names_pact t b) (tx_named t b.pacts) (pact_tx t bs) (λ x. x ≡ tx_named t b.pacts) (λ e. refl) (λ e. no_tx t bs w ∙ sym (unnamed_tx t b.pacts e))
 
 pub tid_place : (t low n : ℕ) (d : Batch) (bs : List Batch) → TidsAscend low (batch_tids bs) → n < length bs → first_tid (slice_index_or bs n d) ≤ t → (suc n < length bs → t < first_tid (slice_index_or bs (suc n) d)) → IsPlaceOfTid t n bs
 tid_place t low n d [] h l at above = absurd (omega arith)
@@ -79,6 +88,7 @@ tid_place t low zero d (b ∷ bs) h l at above =
       within = l;
       consecutive = λ d. h.2;
       result = λ d. first_result t b bs w;
+      tx = λ d. first_tx t b bs w;
       noted = λ r d. ap (λ z. with_results t r b ∷ z) (all_unnoted t r bs w);
     }
 tid_place t low (suc n) d (b ∷ bs) h l at above =
@@ -89,6 +99,7 @@ tid_place t low (suc n) d (b ∷ bs) h l at above =
       within = l;
       consecutive = p.consecutive;
       result = λ d. cond-false (names_pact t b) (result_among t b.pacts) (pact_result t bs) (without_names t b.pacts w) ∙ p.result d;
+      tx = λ d. cond-false (names_pact t b) (tx_named t b.pacts) (pact_tx t bs) (without_names t b.pacts w) ∙ p.tx d;
       noted = λ r d. cons_same (with_results t r b) b (map (with_results t r) bs) (slice_set bs n (with_results t r (slice_index_or bs n d))) (batch_unnoted t r b w) (p.noted r d);
     }
 

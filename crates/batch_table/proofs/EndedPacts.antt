@@ -2,7 +2,7 @@
 use Rattle.std.proofs.Common.{◌≡◌, ℕ, zero, suc, ◌+◌, ◌<◌, ◌≤◌, ◌==◌, false, ◌||◌, Some, None, List, [], ◌∷◌, length, map, refl, ap, ◌∙◌, arith}
 use Rattle.std.specs.Prelude.{slice_get, slice_set, slice_index_or}
 use Rattle.std.specs.List.{AllByRecursion, list_any}
-use Rattle.std.specs.Option.{option_and_then}
+use Rattle.std.specs.Option.{option_and_then, option_map}
 use Rattle.std.proofs.lemmas.Bool.{eq-eqb, ne_eqb, cond-true, cond-false, cond_both, or_parts}
 use Rattle.snap_base.specs.declared.transactions.TxResult.{TxResult}
 use Rattle.protocol.specs.Parts.{Pact, Batch}
@@ -10,6 +10,7 @@ use Rattle.protocol.specs.Words.{result_among}
 use Rattle.protocol.specs.OnDesk.{with_result, with_results}
 use Rattle.protocol.specs.Numbers.{from}
 use Rattle.batch_table.specs.Joining.{pact_tids}
+use Rattle.batch_table.specs.Listed.{tx_named}
 use Rattle.batch_table.proofs.ByNumber.{cons_parts, cons_same}
 
 -- none of them has the tid
@@ -42,6 +43,15 @@ unnamed_result t (p ∷ ps) e =
 
 pub without_result : (t : ℕ) (ps : List Pact) → AreWithout t ps → result_among t ps ≡ None
 without_result t ps h = unnamed_result t ps (without_names t ps h)
+
+pub unnamed_tx : (t : ℕ) (ps : List Pact) → list_any (λ p. p.tid == t) ps ≡ false → tx_named t ps ≡ None
+unnamed_tx t [] e = refl
+unnamed_tx t (p ∷ ps) e =
+    let parts = or_parts (p.tid == t) (list_any (λ p. p.tid == t) ps) e in
+    cond-false (p.tid == t) (Some p.tx) (tx_named t ps) parts.0 ∙ unnamed_tx t ps parts.1
+
+pub without_tx : (t : ℕ) (ps : List Pact) → AreWithout t ps → tx_named t ps ≡ None
+without_tx t ps h = unnamed_tx t ps (without_names t ps h)
 
 pub unnoted : (t : ℕ) (r : TxResult) (p : Pact) → (p.tid == t) ≡ false → with_result t r p ≡ p
 unnoted t r p e = ap (λ x. record p { result = x }) (cond-false (p.tid == t) (Some r) p.result e)
@@ -80,3 +90,12 @@ result_at t h zero (p ∷ ps) e q =
 result_at t h (suc i) (p ∷ ps) e q =
     let parts = cons_parts p.tid h (pact_tids ps) (from (h + 1) (length (pact_tids ps))) e in
     cond-false (p.tid == t) p.result (result_among t ps) (ne_eqb p.tid t (λ x. omega (arith, parts.0))) ∙ result_at t (h + 1) i ps parts.1 (omega arith)
+
+pub tx_at : (t h i : ℕ) (ps : List Pact) → pact_tids ps ≡ from h (length (pact_tids ps)) → t ≡ h + i → tx_named t ps ≡ option_map (λ p. p.tx) (slice_get ps i)
+tx_at t h i [] e q = refl
+tx_at t h zero (p ∷ ps) e q =
+    let parts = cons_parts p.tid h (pact_tids ps) (from (h + 1) (length (pact_tids ps))) e in
+    cond-true (p.tid == t) (Some p.tx) (tx_named t ps) (eq-eqb p.tid t (omega (arith, parts.0)))
+tx_at t h (suc i) (p ∷ ps) e q =
+    let parts = cons_parts p.tid h (pact_tids ps) (from (h + 1) (length (pact_tids ps))) e in
+    cond-false (p.tid == t) (Some p.tx) (tx_named t ps) (ne_eqb p.tid t (λ x. omega (arith, parts.0))) ∙ tx_at t (h + 1) i ps parts.1 (omega arith)

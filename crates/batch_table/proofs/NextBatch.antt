@@ -1,18 +1,16 @@
--- The next batch, and the one that commits, is the one at the front; and none before the front is open.
+-- The next batch is the one at the front.
 use Rattle.std.specs.Prelude.{slice_get, nat_le}
-use Rattle.std.specs.List.{flat_map}
-use Rattle.std.proofs.Common.{◌≡◌, ℕ, zero, suc, ◌+◌, ◌==◌, Bool, true, false, not, ◌&&◌, ◌||◌, ◌≤◌, Option, Some, None, List, [], ◌∷◌, ◌++◌, length, take, refl, ap, sym, ◌∙◌, arith}
-use Rattle.std.proofs.lemmas.Bool.{eqb-true, eq-eqb, and_parts, and_from, cond-false, false≢true, le-leb}
+use Rattle.std.proofs.Common.{◌≡◌, ℕ, zero, suc, ◌+◌, ◌==◌, Bool, true, false, ◌&&◌, Option, Some, None, List, [], ◌∷◌, length, refl, ap, sym, ◌∙◌, arith}
+use Rattle.std.proofs.lemmas.Bool.{eqb-true, eq-eqb, and_parts, and_from, false≢true, le-leb}
 use Rattle.std.proofs.lemmas.Option.{slice_get_within}
 use Rattle.protocol.specs.Parts.{Batch}
-use Rattle.protocol.specs.Words.{holds, is_committing, is_formed, is_settled, batch_of, is_open, is_next_to_commit}
+use Rattle.protocol.specs.Words.{holds, batch_of, is_open, is_next_to_commit}
 use Rattle.protocol.specs.Numbers.{from}
-use Rattle.batch_table.specs.Askings.{is_next_open, awaits_settling}
+use Rattle.batch_table.specs.Askings.{is_next_open}
 use Rattle.batch_table.specs.Joining.{bids_of}
-use Rattle.batch_table.specs.Listed.{unnoted_at, unnoted_in}
 use Rattle.batch_table.specs.Sound.{standings_of, IsFrontCount}
 use Rattle.batch_table.proofs.ByNumber.{cons_parts, found_at_place, is_place}
-use Rattle.batch_table.proofs.FrontOver.{next_at, next_is_front, settling_is_front, formed_not_settled}
+use Rattle.batch_table.proofs.FrontOver.{next_at, next_is_front}
 
 one_bool : (b c : Bool) → (b ≡ true → c ≡ true) → (c ≡ true → b ≡ true) → b ≡ c
 one_bool true true f g = refl
@@ -56,49 +54,3 @@ pub next_at_front : (k base front : ℕ) (bs : List Batch) → bids_of bs ≡ fr
     → is_next_open k bs ≡ holds (λ b. is_open b && (b.bid == k)) (slice_get bs front)
 next_at_front k base front bs e f =
     one_bool (is_next_open k bs) (holds (λ b. is_open b && (b.bid == k)) (slice_get bs front)) (goes_on_at_front k base front bs (slice_get bs front) e f refl) (front_goes_on k base front bs (slice_get bs front) e f refl)
-
--- ---- who commits is at the front
-
-at_front_settles : (k base front : ℕ) (bs : List Batch) (o : Option Batch) → bids_of bs ≡ from (base + 1) (length bs) → IsFrontCount front (standings_of bs) → slice_get bs front ≡ o
-    → holds (λ b. (is_committing b.stage && not b.aborted) && (b.bid == k)) o ≡ true → awaits_settling k bs ≡ true
-at_front_settles k base front bs None e f g h = absurd (false≢true h)
-at_front_settles k base front bs (Some b) e f g h =
-    let parts = and_parts (is_committing b.stage && not b.aborted) (b.bid == k) h in
-    let number : k ≡ base + 1 + front = sym (eqb-true b.bid k parts.1) ∙ bid_at (base + 1) front b bs e g in
-    ap (λ o. holds (λ b. is_committing b.stage && not b.aborted) o) (found_at_place k (base + 1) front bs e number ∙ g) ∙ parts.0
-
-settles_at_front : (k base front : ℕ) (bs : List Batch) (o : Option Batch) → bids_of bs ≡ from (base + 1) (length bs) → IsFrontCount front (standings_of bs) → slice_get bs front ≡ o
-    → awaits_settling k bs ≡ true → holds (λ b. (is_committing b.stage && not b.aborted) && (b.bid == k)) o ≡ true
-settles_at_front k base front bs o e f g h =
-    let at = settling_is_front k base front bs e f h in
-    by o (found_at_place k (base + 1) front bs e at.0 ∙ g) g
-  where
-    by : (o : Option Batch) → batch_of k bs ≡ o → slice_get bs front ≡ o → holds (λ b. (is_committing b.stage && not b.aborted) && (b.bid == k)) o ≡ true
-    by None q i = absurd (false≢true (ap (λ o. holds (λ b. is_committing b.stage && not b.aborted) o) (sym q) ∙ h))
-    by (Some b) q i =
-        and_from (is_committing b.stage && not b.aborted) (b.bid == k) (ap (λ o. holds (λ b. is_committing b.stage && not b.aborted) o) (sym q) ∙ h)
-        (eq-eqb b.bid k (bid_at (base + 1) front b bs e i ∙ sym (settling_is_front k base front bs e f h).0))
-
-pub settling_at_front : (k base front : ℕ) (bs : List Batch) → bids_of bs ≡ from (base + 1) (length bs) → IsFrontCount front (standings_of bs)
-    → awaits_settling k bs ≡ holds (λ b. (is_committing b.stage && not b.aborted) && (b.bid == k)) (slice_get bs front)
-settling_at_front k base front bs e f =
-    one_bool (awaits_settling k bs) (holds (λ b. (is_committing b.stage && not b.aborted) && (b.bid == k)) (slice_get bs front)) (settles_at_front k base front bs (slice_get bs front) e f refl) (at_front_settles k base front bs (slice_get bs front) e f refl)
-
--- ---- nobody before the front is open
-
-over_not_open : (f a s : Bool) → (f ≡ true → s ≡ false) → (a || s) ≡ true → (f && not a) ≡ false
-over_not_open false a s n h = refl
-over_not_open true true s n h = refl
-over_not_open true false s n h = absurd (false≢true (sym (n refl) ∙ h))
-
-pub front_within : (front : ℕ) (bs : List Batch) → IsFrontCount front (standings_of bs) → front ≤ length bs
-front_within zero bs f = omega arith
-front_within (suc n) [] f = absurd f
-front_within (suc n) (b ∷ bs) f = omega (arith, front_within n bs f.1)
-
-pub none_unnoted : (logs l front : ℕ) (bs : List Batch) → IsFrontCount front (standings_of bs) → flat_map (unnoted_in logs l) (take front bs) ≡ []
-none_unnoted logs l zero bs f = refl
-none_unnoted logs l (suc n) [] f = refl
-none_unnoted logs l (suc n) (b ∷ bs) f =
-    ap (λ v. v ++ flat_map (unnoted_in logs l) (take n bs)) (cond-false (is_open b) (unnoted_at logs l b) [] (over_not_open (is_formed b.stage) b.aborted (is_settled b.stage) (formed_not_settled b.stage) f.0))
-    ∙ none_unnoted logs l n bs f.1

@@ -1,10 +1,9 @@
--- Of which batches some event may still be allowed, which actors are not noted, and which transactions wait for a reply.
-use Rattle.std.specs.Prelude.{ℕ, ◌==◌, ◌%◌, Bool, not, ◌&&◌, ◌||◌, if◌then◌else◌, Option, Some, None, List, [], map, filter, slice_get}
-use Rattle.std.specs.List.{list_all, flat_map}
-use Rattle.snap_base.specs.declared.ids.ActorId.{ActorId}
+-- Of which batches some event may still be allowed, and which transactions wait for a reply.
+use Rattle.std.specs.Prelude.{ℕ, ◌==◌, Bool, not, ◌&&◌, ◌||◌, if◌then◌else◌, Option, Some, None, List, [], ◌∷◌, map, filter, slice_get}
+use Rattle.std.specs.List.{list_all}
 use Rattle.snap_base.specs.declared.ids.Bid.{Bid}
-use Rattle.protocol.specs.Parts.{Declared, Batch, Desk}
-use Rattle.protocol.specs.Words.{holds, below, is_open, is_settled}
+use Rattle.protocol.specs.Parts.{Pact, Batch, Desk}
+use Rattle.protocol.specs.Words.{holds, below, is_settled, names_pact}
 
 -- it is neither aborted, nor settled and trimmed on all its actors
 abbrev pub is_going_batch : Batch → Bool
@@ -35,19 +34,11 @@ txs_at (Some b) = map (λ p. p.tx) b.pacts
 abbrev pub is_number : ℕ → Option Bid → Bool
 is_number k bid = holds (λ n. n.0 == k) bid
 
--- the actor is not noted, and its records go to this log of so many
-abbrev pub is_unnoted : ℕ → ℕ → Declared → Bool
-is_unnoted logs l p = not p.noted && (p.actor % logs == l)
+-- the transaction of the PACT with this tid, among some PACTs and among some batches; none where nobody has the tid
+abbrev pub tx_named : ℕ → List Pact → Option ℕ
+tx_named t [] = None
+tx_named t (p ∷ ps) = if p.tid == t then Some p.tx else tx_named t ps
 
--- of a batch that is open such actors, each with its number
-abbrev pub unnoted_at : ℕ → ℕ → Batch → List (ℕ × ℕ)
-unnoted_at logs l b = map (λ p. (b.bid, p.actor)) (filter (is_unnoted logs l) b.places)
-
-abbrev pub unnoted_in : ℕ → ℕ → Batch → List (ℕ × ℕ)
-unnoted_in logs l b = if is_open b then unnoted_at logs l b else []
-
-abbrev pub unnoted_on : ℕ → ℕ → Desk → List (ℕ × ℕ)
-unnoted_on logs l d = flat_map (unnoted_in logs l) d.batches
-
-abbrev pub unnoted_shown : Bid × ActorId → ℕ × ℕ
-unnoted_shown p = (p.0.0, p.1.0)
+abbrev pub pact_tx : ℕ → List Batch → Option ℕ
+pact_tx t [] = None
+pact_tx t (b ∷ bs) = if names_pact t b then tx_named t b.pacts else pact_tx t bs

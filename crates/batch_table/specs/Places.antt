@@ -6,6 +6,7 @@ use Rattle.protocol.specs.Parts.{Batch}
 use Rattle.protocol.specs.Words.{holds, batch_of, is_live_batch, result_among, pact_result}
 use Rattle.protocol.specs.OnDesk.{changed_batch, marked, is_trimmed, with_results}
 use Rattle.batch_table.specs.Joining.{pact_tids, AreConsecutive}
+use Rattle.batch_table.specs.Listed.{tx_named, pact_tx}
 
 -- a batch that was taken along
 abbrev pub gone : Batch → Batch
@@ -31,9 +32,11 @@ pub record IsPlaceOfTid (t i : ℕ) (batches : List Batch) : Type 0 where
   pub within : i < length batches
   pub consecutive : (d : Batch) → AreConsecutive (pact_tids (slice_index_or batches i d).pacts)
   pub result : (d : Batch) → pact_result t batches ≡ result_among t (slice_index_or batches i d).pacts
+  pub tx : (d : Batch) → pact_tx t batches ≡ tx_named t (slice_index_or batches i d).pacts
   pub noted : (r : TxResult) (d : Batch) → map (with_results t r) batches ≡ slice_set batches i (with_results t r (slice_index_or batches i d))
 
 -- no batch has the tid
 pub record IsTidNowhere (t : ℕ) (batches : List Batch) : Type 0 where
   pub result : pact_result t batches ≡ None
+  pub tx : pact_tx t batches ≡ None
   pub noted : (r : TxResult) → map (with_results t r) batches ≡ batches

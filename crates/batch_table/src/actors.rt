@@ -1,14 +1,13 @@
 //! The actors that a batch declares, and the marks of the batch on them.
-ghost use Rattle.std.specs.Prelude.{◌≡◌, ◌==◌, ◌+◌, ◌-◌, ◌≤◌, ◌^◌, ◌++◌, min, not, map, filter, find, option_copied, IfOk, OnOk};
+ghost use Rattle.std.specs.Prelude.{◌≡◌, ◌==◌, ◌+◌, ◌-◌, ◌^◌, min, not, map, find, option_copied, IfOk};
 ghost use Rattle.std.specs.List.{list_all};
 ghost use Rattle.protocol.specs.Meant.{actor_number};
 ghost use Rattle.protocol.specs.Left.{declared_left, total};
 ghost use Rattle.protocol.specs.Words.{holds};
 ghost use Rattle.protocol.specs.OnDesk as desk;
-ghost use Rattle.batch_table.specs.Listed.{is_unnoted, unnoted_shown};
 
 use protocol::unless;
-use snap_base::{ActorId, Bid, Memory};
+use snap_base::{ActorId, Memory};
 use std::alloc::Global;
 use std::marker::Model;
 
@@ -62,14 +61,6 @@ impl ActorEntry {
         ensures { result ≡ self.now.trimmed }
     {
         self.trimmed
-    }
-
-    /// Whether it is not noted, and its records go to this log of so many.
-    fn is_unnoted(&self, logs: u8, log: u8) -> bool
-        requires { 1 ≤ logs }
-        ensures { result ≡ is_unnoted logs log self.now }
-    {
-        !self.noted && self.actor.0 % logs as u16 == log as u16
     }
 
     /// How many events it may still bring: each mark that it lacks is one.
@@ -174,23 +165,4 @@ pub(crate) fn ids(alloc: Global, actors: &[ActorEntry]) -> Result<Vec<ActorId>, 
         ids.push(entry.actor())?;
     }
     Ok(ids)
-}
-
-/// Of a batch those that are not noted, and whose records go to this log of so many, are listed with its number.
-pub(crate) fn list_unnoted(
-    bid: Bid,
-    actors: &[ActorEntry],
-    logs: u8,
-    log: u8,
-    places: &mut Vec<(Bid, ActorId)>,
-) -> Result<(), Memory>
-    requires { 1 ≤ logs }
-    ensures { OnOk result (map unnoted_shown places.new.items ≡ map unnoted_shown places.old.items ++ map (λ p. (bid.0, p.actor)) (filter (is_unnoted logs log) actors.now)) }
-{
-    for entry in actors {
-        if entry.is_unnoted(logs, log) {
-            places.push((bid, entry.actor()))?;
-        }
-    }
-    Ok(())
 }

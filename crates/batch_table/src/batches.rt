@@ -1,5 +1,5 @@
 //! One batch at the desk.
-ghost use Rattle.std.specs.Prelude.{◌≡◌, ◌-◌, ◌≤◌, ◌^◌, min, not, ◌&&◌, ◌++◌, true, Some, map, option_map, IfOk, OnOk, slice_get};
+ghost use Rattle.std.specs.Prelude.{◌≡◌, ◌-◌, ◌^◌, min, not, ◌&&◌, true, Some, map, option_map, IfOk, slice_get};
 ghost use Rattle.std.specs.List.{list_all};
 ghost use Rattle.protocol.specs.Left.{batch_left};
 ghost use Rattle.protocol.specs.Words as words;
@@ -8,7 +8,7 @@ ghost use Rattle.protocol.specs.Meant.{actor_number, batch_pact, subs_actor};
 ghost use Rattle.batch_table.specs.Askings.{failure_shown};
 ghost use Rattle.batch_table.specs.Found.{found_at, found_if};
 ghost use Rattle.batch_table.specs.Joining as joining;
-ghost use Rattle.batch_table.specs.Listed.{is_going_batch, unnoted_in, unnoted_shown};
+ghost use Rattle.batch_table.specs.Listed.{is_going_batch, tx_named};
 ghost use Rattle.batch_table.specs.Stages.{stage_meant};
 
 use crate::actors::{self, ActorEntry};
@@ -119,22 +119,6 @@ impl BatchEntry {
         pacts::txs(alloc, self.pacts.as_slice())
     }
 
-    /// Where it is open, its actors that are not noted, and whose records go to this log of so many, are listed.
-    pub fn list_unnoted(
-        &self,
-        logs: u8,
-        log: u8,
-        places: &mut Vec<(Bid, ActorId)>,
-    ) -> Result<(), Memory>
-        requires { 1 ≤ logs }
-        ensures { OnOk result (map unnoted_shown places.new.items ≡ map unnoted_shown places.old.items ++ unnoted_in logs log self.now) }
-    {
-        if !self.is_open() {
-            return Ok(());
-        }
-        actors::list_unnoted(self.bid, self.actors.as_slice(), logs, log, places)
-    }
-
     /// Whether all its PACTs ended with a value.
     pub fn has_ended_well(&self) -> bool
         ensures { result ≡ list_all (λ p. words.is_value p.result) self.now.pacts }
@@ -192,6 +176,14 @@ impl BatchEntry {
         ensures { result ≡ words.result_among tid.0 self.now.pacts }
     {
         pacts::result_of(self.pacts.as_slice(), tid)
+    }
+
+    /// The transaction of its PACT with this tid; `None` where the batch has no such PACT.
+    pub fn tx_of(&self, tid: Tid) -> Option<TxNo>
+        requires { joining.AreConsecutive (joining.pact_tids self.now.pacts) }
+        ensures { option_map (λ n. n.0) result ≡ tx_named tid.0 self.now.pacts }
+    {
+        pacts::tx_of(self.pacts.as_slice(), tid)
     }
 
     /// What is found where this PACT of the batch is.

@@ -1,15 +1,15 @@
 //! What is asked of the desk when all events that batches may have are looked for.
-ghost use Rattle.std.specs.Prelude.{◌≡◌, ◌==◌, ◌&&◌, ◌≤◌, ℕ, not, map, take, filter, length, slice_get, [], IfOk};
-ghost use Rattle.std.specs.List.{flat_map};
+ghost use Rattle.std.specs.Prelude.{◌≡◌, ◌==◌, ◌&&◌, ◌≤◌, ℕ, not, map, take, filter, length, option_map, slice_get, [], IfOk};
 ghost use Rattle.protocol.specs.Meant.{actor_number};
 ghost use Rattle.protocol.specs.Words as words;
 ghost use Rattle.batch_table.specs.Askings as askings;
-ghost use Rattle.batch_table.specs.Listed.{actors_in, going_batches, is_going_batch, is_number, txs_at, unnoted_in, unnoted_on, unnoted_shown, unreplied_below};
+ghost use Rattle.batch_table.specs.Listed.{actors_in, going_batches, is_going_batch, is_number, pact_tx, txs_at, unreplied_below};
 ghost use Rattle.batch_table.specs.Sound.{IsFrontCount, standings_of};
 
 use crate::batches::BatchEntry;
 use crate::desk::Desk;
-use snap_base::{ActorId, Bid, Memory, TxNo};
+use crate::table;
+use snap_base::{ActorId, Bid, Memory, Tid, TxNo};
 use std::alloc::Global;
 
 impl Desk {
@@ -43,27 +43,18 @@ impl Desk {
         }
     }
 
+    /// The transaction of the PACT with this tid; `None` exactly where no batch has it.
+    pub fn tx_of(&self, tid: Tid) -> Option<TxNo>
+        ensures { option_map (λ n. n.0) result ≡ pact_tx tid.0 self.now.batches }
+    {
+        table::tx_of(self.batches.as_slice(), tid)
+    }
+
     /// The batch that is the next to commit or to be aborted: it is open, and each smaller one is settled or aborted.
     pub fn next(&self) -> Option<Bid>
         ensures { (k : ℕ) → askings.is_next_open k self.now.batches ≡ is_number k result }
     {
         open_at(self.batches.as_slice(), self.front)
-    }
-
-    /// The batch whose commit record is written, while it is neither settled nor aborted.
-    pub fn settling(&self) -> Option<Bid>
-        ensures { (k : ℕ) → askings.awaits_settling k self.now.batches ≡ is_number k result }
-    {
-        settling_at(self.batches.as_slice(), self.front)
-    }
-
-    /// Of the open batches the actors that are not noted, and whose records go to this log of so many, each with its batch.
-    /// It walks the batches that are neither settled nor aborted.
-    pub fn unnoted(&self, alloc: Global, logs: u8, log: u8) -> Result<Vec<(Bid, ActorId)>, Memory>
-        requires { 1 ≤ logs }
-        ensures { IfOk result (λ places. map unnoted_shown places.items ≡ unnoted_on logs log self.now) }
-    {
-        unnoted_from(alloc, self.batches.as_slice(), self.front, logs, log)
     }
 
     /// Of the transactions below this number, such as those submitted so far, those that were not replied to, ascending. It
@@ -117,35 +108,4 @@ fn open_at(batches: &[BatchEntry], place: usize) -> Option<Bid>
         Some(batch) if batch.is_open() => Some(batch.bid()),
         _ => None,
     }
-}
-
-/// The batch at this place, where it commits and is not settled.
-fn settling_at(batches: &[BatchEntry], place: usize) -> Option<Bid>
-    ensures { (k : ℕ) → words.holds (λ b. (words.is_committing b.stage && not b.aborted) && (b.bid == k)) (slice_get batches.now place) ≡ is_number k result }
-{
-    match batches.get(place) {
-        Some(batch) if batch.awaits_settling() => Some(batch.bid()),
-        _ => None,
-    }
-}
-
-/// Of the open batches the actors that are not noted, and whose records go to this log of so many, where no batch before this
-/// place is open.
-fn unnoted_from(
-    alloc: Global,
-    batches: &[BatchEntry],
-    first: usize,
-    logs: u8,
-    log: u8,
-) -> Result<Vec<(Bid, ActorId)>, Memory>
-    requires some { 1 ≤ logs }
-    requires within { first ≤ length batches.now }
-    requires over { flat_map (unnoted_in logs log) (take first batches.now) ≡ [] }
-    ensures { IfOk result (λ places. map unnoted_shown places.items ≡ flat_map (unnoted_in logs log) batches.now) }
-{
-    let mut places = Vec::new(alloc);
-    for i in first..batches.len() {
-        batches[i].list_unnoted(logs, log, &mut places)?;
-    }
-    Ok(places)
 }

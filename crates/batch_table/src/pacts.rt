@@ -6,6 +6,7 @@ ghost use Rattle.protocol.specs.OnDesk.{with_result};
 ghost use Rattle.protocol.specs.Meant.{batch_pact};
 ghost use Rattle.batch_table.specs.Askings.{failure_shown};
 ghost use Rattle.batch_table.specs.Joining as joining;
+ghost use Rattle.batch_table.specs.Listed.{tx_named};
 
 use snap_base::{Memory, Sequence, Tid, TxNo, TxResult};
 use std::alloc::Global;
@@ -152,6 +153,21 @@ pub(crate) fn result_of(pacts: &[PactEntry], tid: Tid) -> Option<TxResult>
     }
     match pacts.get((tid.0 - first) as usize) {
         Some(pact) => pact.result(),
+        None => None,
+    }
+}
+
+/// The transaction of the one with this tid, if there is one. Their tids are one after another.
+pub(crate) fn tx_of(pacts: &[PactEntry], tid: Tid) -> Option<TxNo>
+    requires { joining.AreConsecutive (joining.pact_tids pacts.now) }
+    ensures { option_map (λ n. n.0) result ≡ tx_named tid.0 pacts.now }
+{
+    let first = first_tid(pacts);
+    if tid.0 < first {
+        return None;
+    }
+    match pacts.get((tid.0 - first) as usize) {
+        Some(pact) => Some(pact.tx()),
         None => None,
     }
 }

@@ -2,13 +2,14 @@
 //! other. Batches are numbered one after another, from the one that follows the base on.
 
 ghost use Rattle.std.specs.Prelude.{◌≡◌, ◌+◌, ◌<◌, ◌≤◌, ◌^◌, ◌&&◌, ◌++◌, map, take, drop, length, MatchOption, option_copied, slice_get, nat_le};
-ghost use Rattle.std.specs.Option.{option_and_then};
+ghost use Rattle.std.specs.Option.{option_and_then, option_map};
 ghost use Rattle.protocol.specs.Words as words;
 ghost use Rattle.protocol.specs.OnDesk as desk;
 ghost use Rattle.protocol.specs.Numbers.{from};
 ghost use Rattle.batch_table.specs.Askings as askings;
 ghost use Rattle.batch_table.specs.Found.{found_if};
 ghost use Rattle.batch_table.specs.Joining.{bids_of, batch_tids};
+ghost use Rattle.batch_table.specs.Listed.{pact_tx};
 ghost use Rattle.batch_table.specs.Places.{IsPlaceOfBatch, IsNowhere, IsPlaceOfTid, IsTidNowhere, gone, is_live_with_trim};
 ghost use Rattle.batch_table.specs.Sound.{TidsAscend, IsFrontCount, standings_of};
 ghost use Rattle.batch_table.specs.Stages.{stage_meant};
@@ -132,6 +133,17 @@ pub(crate) fn result_of(batches: &[BatchEntry], tid: Tid) -> Option<TxResult>
 {
     match place_of_tid(batches, tid) {
         Some(place) => batches[place].result_of(tid),
+        None => None,
+    }
+}
+
+/// The transaction of the PACT with this tid, if a batch has it.
+pub(crate) fn tx_of(batches: &[BatchEntry], tid: Tid) -> Option<TxNo>
+    requires { TidsAscend 0 (batch_tids batches.now) }
+    ensures { option_map (λ n. n.0) result ≡ pact_tx tid.0 batches.now }
+{
+    match place_of_tid(batches, tid) {
+        Some(place) => batches[place].tx_of(tid),
         None => None,
     }
 }

@@ -1,4 +1,5 @@
 pub mod Listing
+pub mod Owing
 pub use Rattle.post_box.specs as post_box
 pub use Rattle.hybrid_schedule.specs as hybrid_schedule
 pub use Rattle.batch_table.specs as batch_table

@@ -7,5 +7,5 @@ mod listings;
 
 pub use batch_table::Desk;
 pub use book_part::BookPart;
-pub use listings::{parts_list_all, run_parts_list_all};
+pub use listings::{parts_list_all, run_parts_list_all, undone_have_declared};
 pub use post_box::Post;

@@ -2,12 +2,13 @@
 
 ghost use Rattle.std.specs.Prelude.{ℕ, Bool, List};
 ghost use Rattle.protocol.specs.Events.{Event};
-ghost use Rattle.protocol.specs.Laws.{AfterEveryRunWithHistory};
+ghost use Rattle.protocol.specs.Laws.{AfterEveryRun, AfterEveryRunWithHistory};
 ghost use Rattle.protocol.specs.Parts.{Cell, Desk, Post};
 ghost use Rattle.protocol_ready.specs.Telling.{CellTells, DeskTells, PostTells};
+ghost use Rattle.listing_facts.specs.Owing.{UndoneHaveDeclared};
 ghost use Rattle.listing_facts.specs.Listing.{CellLists, DeskLists, ListsAreEnough, PostLists};
 
-use protocol_laws::transactions_are_in_one_place;
+use protocol_laws::{frame, transactions_are_in_one_place};
 use protocol_records::acts_end_whole;
 
 /// In every state: what the post, an actor and the desk list is what they have to tell.
@@ -24,4 +25,11 @@ pub fn run_parts_list_all<C>()
 {
     acts_end_whole::<C>();
     transactions_are_in_one_place::<C>();
+}
+
+/// After every run: whoever is undone on an actor has declared it.
+pub fn undone_have_declared<C>()
+    ensures { AfterEveryRun (UndoneHaveDeclared {C = C}) }
+{
+    frame::<C>();
 }
