@@ -11,11 +11,11 @@ mod of_post;
 mod offering;
 mod pushing;
 
-pub use of_acts::{list_act, list_book};
-pub use of_batches::{list_batch, list_desk, list_going};
-pub use of_cells::{actor_count, list_boxes, list_cell, list_cells, list_place, list_schedule};
-pub use of_others::{list_logs, list_next, list_replies, list_ring, list_unreplied};
-pub use of_post::{list_controls, list_messages, list_post, list_subs};
+pub use of_acts::list_book;
+pub use of_batches::{list_desk, list_going};
+pub use of_cells::{actor_count, list_cells, list_place, list_waiting};
+pub use of_others::{list_next, list_ring, list_unreplied, next_holder};
+pub use of_post::{list_messages, list_post};
 pub use offering::offers;
-pub use pushing::{push_one, push_three, push_two};
+pub use pushing::{push_one, push_two};
 pub use ready_list::ReadyList;

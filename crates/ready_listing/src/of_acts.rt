@@ -30,12 +30,7 @@ fn list_joined(t: Tid, actors: &[ActorId], events: &mut Vec<Event>) -> Result<()
 /// Lists what the ACT of this number may wait for: Decide and Seal, and on each actor that it has joined Prepare, Vouch and
 /// Finish. Of an ACT that was not admitted it lists the first two, which nobody may take. An `Err` is want of memory, and of the
 /// list nothing is said then.
-pub fn list_act(
-    alloc: Global,
-    book: &BookPart,
-    t: Tid,
-    events: &mut Vec<Event>,
-) -> Result<(), Memory>
+fn list_act(alloc: Global, book: &BookPart, t: Tid, events: &mut Vec<Event>) -> Result<(), Memory>
     ensures { OnOk result ((b : Book) → Shows book.now b → Adds events.old.items events.new.items (of_act b t.0)) }
 {
     push_two(events, Event::Decide(t), Event::Seal(t))?;

@@ -23,7 +23,7 @@ fn list_declared(k: Bid, actors: &[ActorId], events: &mut Vec<Event>) -> Result<
 /// Lists what the batch of this number may wait for: Commit, Settle and AbortBatch, and on each actor that it declares Note and
 /// Trim. Of a batch that was not formed it lists the first three, which nobody may take. An `Err` is want of memory, and of the
 /// list nothing is said then.
-pub fn list_batch(alloc: Global, desk: &Desk, k: Bid, events: &mut Vec<Event>) -> Result<(), Memory>
+fn list_batch(alloc: Global, desk: &Desk, k: Bid, events: &mut Vec<Event>) -> Result<(), Memory>
     ensures { OnOk result (Adds events.old.items events.new.items (of_batch desk.now k.0)) }
 {
     push_three(

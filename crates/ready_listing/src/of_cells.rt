@@ -14,7 +14,8 @@ use snap_base::{ActorId, Bid, Memory, Tid};
 use snap_hand::{CellPart, Hand, Tables};
 use std::alloc::Global;
 
-fn list_waiting(a: ActorId, tids: &[Tid], events: &mut Vec<Event>) -> Result<(), Memory>
+/// Lists a Run on the actor of each of these transactions. An `Err` is want of memory, and of the list nothing is said then.
+pub fn list_waiting(a: ActorId, tids: &[Tid], events: &mut Vec<Event>) -> Result<(), Memory>
     ensures { OnOk result (Adds events.old.items events.new.items (flat_map (of_waiting a.0) (map tid_number tids.now))) }
 {
     for t in tids {
@@ -52,7 +53,7 @@ fn list_incomplete(a: ActorId, bids: &[Bid], events: &mut Vec<Event>) -> Result<
 
 /// Lists the events of what lies in the boxes of the actor: Run of each control that waits there, Send and End of each outcome. An
 /// `Err` is want of memory, and of the list nothing is said then.
-pub fn list_boxes(
+fn list_boxes(
     alloc: Global,
     cell: &CellPart<Control>,
     a: ActorId,
@@ -69,7 +70,7 @@ pub fn list_boxes(
 
 /// Lists the events of what stands in the schedule of the actor: Close of each PACT that is not done there, Complete of each
 /// batch that is not complete there. An `Err` is want of memory, and of the list nothing is said then.
-pub fn list_schedule(
+fn list_schedule(
     alloc: Global,
     cell: &CellPart<Control>,
     a: ActorId,
@@ -86,7 +87,7 @@ pub fn list_schedule(
 
 /// Lists the events of what lies at the actor, in its boxes and its schedule, and before them its Rollback. An `Err` is want of
 /// memory, and of the list nothing is said then.
-pub fn list_cell(
+fn list_cell(
     alloc: Global,
     cell: &CellPart<Control>,
     a: ActorId,

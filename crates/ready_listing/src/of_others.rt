@@ -12,7 +12,7 @@ use snap_hand::{Hand, Ring, Tables};
 use std::alloc::Global;
 
 /// Who has the token after this one.
-fn next_holder(tables: &Tables, holder: u8) -> u8
+pub fn next_holder(tables: &Tables, holder: u8) -> u8
     requires { AreTables tables.now }
     ensures { result ≡ (holder + 1) % (text_of tables.now).coordinators }
 {
@@ -49,7 +49,7 @@ pub fn list_ring(tables: &Tables, hand: &Hand, events: &mut Vec<Event>) -> Resul
 }
 
 /// Lists a Sync of each log of the text, by their numbers. An `Err` is want of memory, and of the list nothing is said then.
-pub fn list_logs(tables: &Tables, events: &mut Vec<Event>) -> Result<(), Memory>
+pub(crate) fn list_logs(tables: &Tables, events: &mut Vec<Event>) -> Result<(), Memory>
     ensures { OnOk result (Adds events.old.items events.new.items (flat_map of_log (below (text_of tables.now).logs))) }
 {
     let count = tables.work.logs;
@@ -82,7 +82,7 @@ pub fn list_unreplied(txs: &[TxNo], events: &mut Vec<Event>) -> Result<(), Memor
 
 /// Lists a Reply of each transaction that has none yet, of those submitted where the ring is at hand, else of all of the text; and
 /// nothing where the desk is not at hand. An `Err` is want of memory, and of the list nothing is said then.
-pub fn list_replies(
+pub(crate) fn list_replies(
     alloc: Global,
     tables: &Tables,
     hand: &Hand,

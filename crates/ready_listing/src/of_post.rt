@@ -14,7 +14,7 @@ use std::alloc::Global;
 
 /// Lists Arrive and DropSub of each of these sub-batches: a batch, and the actor to which it is under way. An `Err` is want of
 /// memory, and of the list nothing is said then.
-pub fn list_subs(subs: &[(Bid, ActorId)], events: &mut Vec<Event>) -> Result<(), Memory>
+fn list_subs(subs: &[(Bid, ActorId)], events: &mut Vec<Event>) -> Result<(), Memory>
     ensures { OnOk result (Adds events.old.items events.new.items (flat_map of_sub (map sub_listed subs.now))) }
 {
     for p in subs {
@@ -25,7 +25,7 @@ pub fn list_subs(subs: &[(Bid, ActorId)], events: &mut Vec<Event>) -> Result<(),
 
 /// Lists Ask, Take and DropControl of each of these controls: a transaction, and the actor to which it is under way. An `Err` is
 /// want of memory, and of the list nothing is said then.
-pub fn list_controls(controls: &[(Tid, ActorId)], events: &mut Vec<Event>) -> Result<(), Memory>
+fn list_controls(controls: &[(Tid, ActorId)], events: &mut Vec<Event>) -> Result<(), Memory>
     ensures { OnOk result (Adds events.old.items events.new.items (flat_map of_control (map control_listed controls.now))) }
 {
     for p in controls {

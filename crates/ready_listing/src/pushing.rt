@@ -26,7 +26,12 @@ pub fn push_two(events: &mut Vec<Event>, e: Event, f: Event) -> Result<(), Memor
 
 /// Puts the events `e`, `f` and `g` behind those of the list, in this order. An `Err` is want of memory, and of the list nothing is
 /// said then: it may have got some of them.
-pub fn push_three(events: &mut Vec<Event>, e: Event, f: Event, g: Event) -> Result<(), Memory>
+pub(crate) fn push_three(
+    events: &mut Vec<Event>,
+    e: Event,
+    f: Event,
+    g: Event,
+) -> Result<(), Memory>
     ensures { OnOk result (Adds events.old.items events.new.items (event_meant e ∷ event_meant f ∷ event_meant g ∷ [])) }
 {
     push_two(events, e, f)?;

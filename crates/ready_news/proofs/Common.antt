@@ -1,10 +1,9 @@
 -- What the listers have in common: a list that grows tells what it told, all parts are at hand, and what is new is touched.
 use Rattle.std.specs.List.{flat_map}
-use Rattle.std.proofs.Common.{◌≡◌, ◌↔◌, refl, ℕ, zero, suc, ◌+◌, ◌-◌, ◌<◌, ◌≤◌, ◌==◌, not, Bool, true, false, ◌&&◌, Option, Some, None, is_some, List, [], ◌∷◌, ◌++◌, length, map, filter, take, get_or, slice_get, option_map, Contains, arith, sym, ap, subst, ◌∙◌, append_assoc, append-nil}
+use Rattle.std.proofs.Common.{◌≡◌, ◌↔◌, refl, ℕ, zero, suc, ◌+◌, ◌-◌, ◌<◌, ◌≤◌, ◌==◌, not, true, false, ◌&&◌, Option, Some, None, is_some, List, [], ◌∷◌, ◌++◌, length, map, slice_get, option_map, Contains, arith, sym, ap, subst, ◌∙◌, append-nil}
 use Rattle.std.proofs.lemmas.Bool.{and_parts, not-true, eqb-true}
 use Rattle.std.proofs.lemmas.Grind.{flat_map-append}
-use Rattle.std.proofs.lemmas.List.{map_more, take_all}
-use Rattle.std.proofs.lemmas.List.Elements.{Contains-append_left, Contains-append_right, filter-append}
+use Rattle.std.proofs.lemmas.List.Elements.{Contains-append_right}
 use Rattle.std.proofs.lemmas.Option.{slice_get-map}
 use Rattle.snap_base.proofs.Lists.{one_at}
 use Rattle.aml_slice.specs.Controls.{Rest}
@@ -17,28 +16,25 @@ use Rattle.ready_listing.proofs.Parts.{cell_shown}
 use Rattle.protocol.specs.Conditions.{IsAllowed, refusal}
 use Rattle.protocol.specs.Effects.{after}
 use Rattle.protocol.specs.Events.{Event, cell}
-use Rattle.protocol.specs.Fixed.{Fixed, Text}
+use Rattle.protocol.specs.Fixed.{Fixed}
 use Rattle.protocol.specs.Numbers.{from}
-use Rattle.protocol.specs.Parts.{Ring, Book, Post, Desk, Log, Cell, Machine}
-use Rattle.protocol_ready.specs.Telling.{RingTells, PostTells, CellTells, LogTells, DeskTells, BookTells, AnswersTell}
+use Rattle.protocol.specs.Parts.{Ring, Post, Desk, Cell, Machine}
 use Rattle.protocol_ready.specs.Touched.{is_touched}
 use Rattle.snap_hand.specs.Hands.{Parts, IsWhole, are_there}
-use Rattle.ready_news.specs.New.{is_new, Keeps}
+use Rattle.ready_news.specs.New.{is_new}
 
 -- ---- lists that grow
 
-pub keeps_same : (xs : List code.Event) → Keeps xs xs
-keeps_same xs f h = h
-
-pub keeps_both : (xs ys zs : List code.Event) → Keeps xs ys → Keeps ys zs → Keeps xs zs
-keeps_both xs ys zs h g f c = g f (h f c)
-
--- what was there, and what was added
-pub keeps_added : (old new : List code.Event) (more : List Event) → Adds old new more → Keeps old new
-keeps_added old new more h f c = subst (λ v. Contains v f) (sym h) (Contains-append_left (map event_meant old) more f c)
-
 pub has_added : (old new : List code.Event) (more : List Event) → Adds old new more → (f : Event) → Contains more f → Contains (map event_meant new) f
 has_added old new more h f c = subst (λ v. Contains v f) (sym h) (Contains-append_right (map event_meant old) more f c)
+
+-- ---- three lists, and four
+
+pub adds_three : (o u v n : List code.Event) (xs ys zs : List Event) → Adds o u xs → Adds u v ys → Adds v n zs → Adds o n (xs ++ (ys ++ zs))
+adds_three o u v n xs ys zs f g h = adds_both o u n xs (ys ++ zs) f (adds_both u v n ys zs g h)
+
+pub adds_four : (o u v t n : List code.Event) (xs ys zs rest : List Event) → Adds o u xs → Adds u v ys → Adds v t zs → Adds t n rest → Adds o n (xs ++ (ys ++ (zs ++ rest)))
+adds_four o u v t n xs ys zs rest f g h k = adds_both o u n xs (ys ++ (zs ++ rest)) f (adds_three u v t n ys zs rest g h k)
 
 -- ---- loops
 
@@ -56,73 +52,9 @@ adds_number f k j base now next low so_far one =
     ∙ ap (λ v. map event_meant base ++ v)
     (sym (ap (λ m. flat_map f (from k m)) count ∙ (ap (flat_map f) (from_last k (j - k)) ∙ (flat_map-append f front ((k + (j - k)) ∷ []) ∙ ap (λ v. flat_map f front ++ v) (append-nil (f (k + (j - k))) ∙ ap f last)))))
 
--- over a list, of which some are kept
-pub filters_more : {X A : Type 0} (p : A → Bool) (g : X → A) (xs : List X) (i : ℕ) (x : X) (base now next : List A) → i < length xs → x ≡ get_or xs i x → now ≡ base ++ filter p (map g (take i xs)) → next ≡ now ++ filter p (g x ∷ []) → next ≡ base ++ filter p (map g (take (i + 1) xs))
-filters_more p g xs i x base now next within is so_far one =
-    let front = map g (take i xs) in
-    one ∙ (ap (λ v. v ++ filter p (g x ∷ [])) so_far ∙ (append_assoc base (filter p front) (filter p (g x ∷ []))
-    ∙ ap (λ v. base ++ v) (sym (ap (filter p) (map_more g xs i x within) ∙ (filter-append p front (g (get_or xs i x) ∷ []) ∙ ap (λ y. filter p front ++ filter p (g y ∷ [])) (sym is))))))
-
-pub filters_all : {X A : Type 0} (p : A → Bool) (g : X → A) (xs : List X) (i : ℕ) (base now : List A) → length xs ≤ i → now ≡ base ++ filter p (map g (take i xs)) → now ≡ base ++ filter p (map g xs)
-filters_all p g xs i base now past so_far = so_far ∙ ap (λ v. base ++ filter p (map g v)) (take_all i xs past)
-
--- ---- what a list tells, one with more does
-
 -- all of these are among those
 abbrev pub Among : List Event → List Event → Type 0
 Among xs ys = (f : Event) → Contains xs f → Contains ys f
-
-module _ (asked : Event → Bool) (xs ys : List Event) (more : Among xs ys) where
-  pub ring_more : (w : Text) (r : Ring) → RingTells asked w r xs → RingTells asked w r ys
-  ring_more w r t = record {
-    submit = λ q h. more _ (t.submit q h);
-    pass = λ q h g. more _ (t.pass q h g);
-    form = λ q h. more _ (t.form q h);
-    admit = λ q h. more _ (t.admit q h);
-  }
-
-  pub post_more : {C : Type 0} (p : Post C) → PostTells asked p xs → PostTells asked p ys
-  post_more p t = record {
-    arrive = λ k a q h. more _ (t.arrive k a q h);
-    drop_sub = λ k a q h. more _ (t.drop_sub k a q h);
-    ask = λ u a q h. more _ (t.ask u a q h);
-    take = λ u a q h. more _ (t.take u a q h);
-    drop_control = λ u q h. more _ (t.drop_control u q h);
-  }
-
-  pub cell_more : {C : Type 0} (cascades a : ℕ) (c : Cell C) → CellTells asked cascades a c xs → CellTells asked cascades a c ys
-  cell_more cascades a c t = record {
-    run = λ u q h. more _ (t.run u q h);
-    send = λ u q h. more _ (t.send u q h);
-    end = λ u q h. more _ (t.end u q h);
-    close = λ u q h. more _ (t.close u q h);
-    complete = λ k q h. more _ (t.complete k q h);
-    rollback = λ q h. more _ (t.rollback q h);
-  }
-
-  pub log_more : (l : ℕ) (g : Log) → LogTells asked l g xs → LogTells asked l g ys
-  log_more l g t q h = more _ (t q h)
-
-  pub desk_more : (d : Desk) → DeskTells asked d xs → DeskTells asked d ys
-  desk_more d t = record {
-    note = λ k a q h. more _ (t.note k a q h);
-    commit = λ k q h. more _ (t.commit k q h);
-    abort = λ k q h. more _ (t.abort k q h);
-    settle = λ k q h. more _ (t.settle k q h);
-    trim = λ k a q h. more _ (t.trim k a q h);
-  }
-
-  pub book_more : (b : Book) → BookTells asked b xs → BookTells asked b ys
-  book_more b t = record {
-    prepare = λ u a q h g. more _ (t.prepare u a q h g);
-    vouch = λ u a q h. more _ (t.vouch u a q h);
-    decide = λ u q h. more _ (t.decide u q h);
-    seal = λ u q h. more _ (t.seal u q h);
-    finish = λ u a q h g. more _ (t.finish u a q h g);
-  }
-
-  pub answers_more : (b : Book) (d : Desk) → AnswersTell asked b d xs → AnswersTell asked b d ys
-  answers_more b d t n q h g = more _ (t n q h g)
 
 -- ---- what is new
 

@@ -110,7 +110,7 @@ pub record Known (acts : List Act) : Type 0 where
   pub ends : (t : ℕ) (x : Act) → act_of t acts ≡ Some x → EndsWhole x
   pub numbers : (t j : ℕ) (x : Act) → act_of t acts ≡ Some x → is_live_status x.status ≡ true → x.n ≡ Some j → (x.m < j) × (is_empty x.places ≡ false)
 
-numbered : (m : ℕ) (o : Option ℕ) → reaches m o ≡ true → (j : ℕ) × ((o ≡ Some j) × (j ≤ m))
+pub numbered : (m : ℕ) (o : Option ℕ) → reaches m o ≡ true → (j : ℕ) × ((o ≡ Some j) × (j ≤ m))
 numbered m None h = not_so h
 numbered m (Some j) h = (j, (refl, leb-true j m h))
 

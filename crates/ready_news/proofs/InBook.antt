@@ -239,7 +239,7 @@ module _ (w : Fixed Rest) (s : Machine Rest) (ruled : Ruled) (es : List Event) w
         finish = λ t a q h i. absurd (g.refused (Finish t a) q (end_finish w v c s t a (g.allowed (Finish t a) q)));
       }
 
-  prepare_told : (v c : ℕ) → SyncedWithin s → AddedOnce (after w (Prepare v c) s) → IsAllowed w (Prepare v c) s → BookTells (is_new w (Prepare v c) s) (after w (Prepare v c) s).book es
+  pub prepare_told : (v c : ℕ) → SyncedWithin s → AddedOnce (after w (Prepare v c) s) → IsAllowed w (Prepare v c) s → BookTells (is_new w (Prepare v c) s) (after w (Prepare v c) s).book es
   prepare_told v c within once allowed =
       let g = asks_of w (Prepare v c) s ruled in
       record {

@@ -1,35 +1,30 @@
 -- What is listed of the actors tells what is new there.
-use Rattle.std.specs.Prelude.{◌≡◌, ◌↔◌, nat_le, nat_lt, map, refl, ℕ, zero, suc, ◌+◌, ◌<◌, ◌≤◌, ◌==◌, Bool, true, false, ◌&&◌, ◌||◌, if◌then◌else◌, is_some, Option, Some, None, List, [], ◌∷◌, ◌++◌, length, take, slice_get, slice_set, Contains}
-use Rattle.std.specs.List.{list_any, AllByRecursion}
+use Rattle.std.specs.Prelude.{◌≡◌, ◌↔◌, nat_lt, map, refl, ℕ, zero, suc, ◌+◌, ◌<◌, ◌≤◌, ◌==◌, Bool, true, false, ◌&&◌, ◌||◌, if◌then◌else◌, is_some, Option, Some, None, List, [], ◌∷◌, ◌++◌, length, take, slice_get, slice_set, Contains}
+use Rattle.std.specs.List.{list_any, flat_map, AllByRecursion}
 use Rattle.std.proofs.Common.{arith, sym, ap, subst, inl, inr, ◌∙◌}
 use Rattle.std.proofs.lemmas.Bool.{true≢false, ltb-false, and_parts, eqb-true, cases_Bool}
 use Rattle.std.proofs.lemmas.List.Elements.{Contains-append_left, Contains-append_right}
 use Rattle.std.proofs.lemmas.Option.{same_Some, slice_get_within, slice_get_past}
 use Rattle.aml_slice.specs.Controls.{Rest}
 use Rattle.protocol.specs.Conditions.{IsAllowed, conditions, epoch, has_ended_on, has_gone_on, refusal}
-use Rattle.protocol.specs.Effects.{after, cell_at, no_cell, puts}
+use Rattle.protocol.specs.Effects.{after, cell_at, puts}
 use Rattle.protocol.specs.Events.{Event, Form, Arrive, Ask, Take, Run, Send, End, Close, Complete, Abort, Rollback, Finish, Trim}
-use Rattle.protocol.specs.Fixed.{Fixed}
+use Rattle.protocol.specs.Fixed.{Text, Fixed, declared, tx_at}
 use Rattle.protocol.specs.Laws.{AfterEveryRun}
 use Rattle.snap_hand.specs.core_rows.OnRuns.{HasRun}
 use Rattle.protocol.specs.OnCell.{batch_entries, batch_placed, done_in, is_done_after, outcome_taken, pact_closed, slice_of, slice_run}
 use Rattle.protocol.specs.OnDesk.{new_batch}
 use Rattle.protocol.specs.OnRing.{next_actors, next_pacts, numbered}
-use Rattle.protocol.specs.Parts.{Who, OfBatch, OfAct, SubBatch, Pact, Batch, Desk, Outcome, Cell, Machine}
-use Rattle.protocol.specs.Numbers.{NumbersDrawnOnce, flat, times}
-use Rattle.protocol.specs.Rests.{IsRest, IsTxIn}
-use Rattle.protocol.specs.Words.{batch_of, below, has_undone, holds, is_ended, is_going, is_undone, names_pact, outcome_of, pact_result, result_among, sub_of, who_on}
-use Rattle.protocol_laws.specs.FromDesk.{EntryOf, FromDesk}
-use Rattle.protocol_laws.proofs.first.Times.{times_append}
-use Rattle.protocol_laws.proofs.machine.AllGood.{all_good}
-use Rattle.listing_facts.specs.batch_table.Listed.{actors_in}
+use Rattle.protocol.specs.Parts.{SubBatch, Pact, Batch, Desk, Outcome, Cell, Machine}
+use Rattle.protocol.specs.Words.{below, has_undone, holds, is_among, is_ended, is_going, is_undone, names_pact, outcome_of, pact_result, result_among, sub_of}
+use Rattle.listing_facts.specs.Owing.{UndoneHaveDeclared}
+use Rattle.listing_facts.specs.batch_table.Listed.{pact_tx}
 use Rattle.listing_facts.specs.hybrid_schedule.Listed.{undone_by}
 use Rattle.protocol_laws.specs.Ranges.{BatchInRange, IsDrawnTid, NumbersInRange}
-use Rattle.protocol_laws.proofs.first.Controls.{at_most_one}
 use Rattle.protocol_theorems.specs.Sizes.{SizesHold}
 use Rattle.protocol_ready.specs.Telling.{CellTells}
 use Rattle.protocol_ready.specs.Touched.{is_touched, is_abort, changes_entries, changes_done, changes_result}
-use Rattle.protocol_ready.proofs.Listing.{from_has, any_of, at_found}
+use Rattle.protocol_ready.proofs.Listing.{Has, from_has, any_of}
 use Rattle.protocol_ready.proofs.TouchedListed.{no}
 use Rattle.listing_facts.specs.Listing.{CellLists}
 use Rattle.ready_listing.specs.Listed.{on_place, of_place}
@@ -38,9 +33,8 @@ use Rattle.ready_listing.proofs.Told.{cell_lists}
 use Rattle.snap_hand.specs.Hands.{Parts, Fits, IsHandOf, IsWhole}
 use Rattle.ready_news.specs.New.{IsBehind, is_new}
 use Rattle.ready_news.specs.InBook.{only}
-use Rattle.ready_news.specs.InCells.{of_close, close_at, closes, closes_of, closes_behind, late_by, left_by, of_late, of_shown, on_changed, owes, put_there, wakes, who_in, cells_listed}
+use Rattle.ready_news.specs.InCells.{close_at, closes_behind, declared_in, late_by, left_by, of_late, of_shown, on_changed, owes, put_there, wakes, cells_listed}
 use Rattle.ready_news.proofs.Common.{Among, cell_is_there, desk_there}
-use Rattle.ready_news.proofs.Closing.{declared_where, who_is}
 use Rattle.ready_news.proofs.InPost.{find_gone, numbered_from, left_or}
 use Rattle.ready_news.proofs.PostTold.{Asks, asks_of, first_only}
 use Rattle.ready_news.proofs.Waking.{arrive_closes, ask_closes, ask_completes, ask_runs, complete_listed, done_owes_nothing, finish_closes, finish_ends, finish_sends, named_by, run_listed, trim_closes}
@@ -129,54 +123,37 @@ form_closes w k s t a ranges h c =
 -- ---- a PACT that ended
 
 -- what is known of the state in which it is looked for
-record Desked (t : Machine Rest) (h : Parts) : Type 0 where
-  pub from : FromDesk t
-  pub few : (u : ℕ) → times u (flat (map (λ b. map (λ p. p.tid) b.pacts) t.desk.batches)) ≤ 1
+record Desked (w : Fixed Rest) (t : Machine Rest) (h : Parts) : Type 0 where
+  pub owing : UndoneHaveDeclared w t
   pub desk : h.desk ≡ Some t.desk
   pub cells : (b : ℕ) (x : Cell Rest) → slice_get h.cells b ≡ Some (Some x) → slice_get t.cells b ≡ Some x
   pub there : (b : ℕ) → b < length h.cells → (x : Cell Rest) × (slice_get h.cells b ≡ Some (Some x))
 
-everywhere : (h : Parts) (u a : ℕ) → a < length h.cells → Contains (closes u h) (Close u a)
-everywhere h u a within = in_flat_map (of_close u) (below (length h.cells)) a (Close u a) (in_below a (length h.cells) within) (first_of_all [] (Close u a))
-
-entries_of : (t : Machine Rest) → FromDesk t → (a : ℕ) (c : Cell Rest) → slice_get t.cells a ≡ Some c → AllByRecursion (EntryOf a t.desk.batches) c.entries
-entries_of t from a c at = subst (λ z. AllByRecursion (EntryOf a t.desk.batches) z.entries) (at_found t.cells a no_cell c at) (from.entries a)
-
-owed : (t : Machine Rest) (h : Parts) → Desked t h → (u a : ℕ) (c : Cell Rest) → slice_get t.cells a ≡ Some c → has_undone u c.entries ≡ true → a < length h.cells → Contains (close_at u h a) (Close u a)
-owed t h k u a c at undone within =
+owed : (w : Fixed Rest) (t : Machine Rest) (h : Parts) → Desked w t h → (u a : ℕ) (c : Cell Rest) → slice_get t.cells a ≡ Some c → has_undone u c.entries ≡ true → a < length h.cells → Contains (close_at u h a) (Close u a)
+owed w t h k u a c at undone within =
     let x = k.there a within in
     let same : x.0 ≡ c = same_Some x.0 c (sym (k.cells a x.0 x.1) ∙ at) in
     let due : owes u (slice_get h.cells a) ≡ true = ap (owes u) x.1 ∙ (ap (λ z. has_undone u z.entries) same ∙ undone) in
     subst (λ v. Contains (only v (Close u a)) (Close u a)) (sym due) (first_of_all [] (Close u a))
 
-ended_in : (t : Machine Rest) (h : Parts) → Desked t h → (u b a : ℕ) (c : Cell Rest) → slice_get t.cells a ≡ Some c → has_undone u c.entries ≡ true → is_some (pact_result u t.desk.batches) ≡ true → a < length h.cells
-    → Contains (closes_behind u (who_in u (slice_get h.cells b)) h.desk h) (Close u a)
-ended_in t h k u b a c at undone result within =
-    let who = who_in u (slice_get h.cells b) in
-    subst (λ o. Contains (closes_behind u who o h) (Close u a)) (sym k.desk)
-    (subst (λ v. Contains (if v then closes_of u who t.desk h else []) (Close u a)) (sym result) (by (slice_get h.cells b) refl))
-  where
-    whose : (x : Cell Rest) → slice_get t.cells b ≡ Some x → (who : Who) → who_on u x.entries ≡ who → Contains (closes_of u who t.desk h) (Close u a)
-    whose x is (OfAct v) q = everywhere h u a within
-    whose x is (OfBatch j) q =
-        let of_j = who_is b u j t.desk.batches x.entries (entries_of t k.from b x is) q in
-        let actors = actors_in (batch_of j t.desk.batches) in
-        in_flat_map (close_at u h) actors a (Close u a) (from_has actors a (declared_where a u j t.desk.batches c.entries (entries_of t k.from a c at) (k.few u) of_j undone)) (owed t h k u a c at undone within)
+among_declared : (w : Text) (n : Option ℕ) (a : ℕ) → holds (λ m. is_among a (declared (tx_at w m))) n ≡ true → Has (declared_in w n) a
+among_declared w None a h = no h
+among_declared w (Some n) a h =
+    let s = any_of (λ x. x == a) (declared (tx_at w n)) h in
+    subst (Has (declared (tx_at w n))) (eqb-true s.it a s.does) s.has
 
-    by : (o : Option (Option (Cell Rest))) → slice_get h.cells b ≡ o → Contains (closes_of u (who_in u o) t.desk h) (Close u a)
-    by None e = everywhere h u a within
-    by (Some None) e = everywhere h u a within
-    by (Some (Some x)) e = whose x (k.cells b x e) (who_on u x.entries) refl
+ended_in : (w : Fixed Rest) (t : Machine Rest) (h : Parts) → Desked w t h → (u a : ℕ) (c : Cell Rest) → slice_get t.cells a ≡ Some c → has_undone u c.entries ≡ true → is_some (pact_result u t.desk.batches) ≡ true → a < length h.cells
+    → Contains (closes_behind w.text u h.desk h) (Close u a)
+ended_in w t h k u a c at undone result within =
+    let actors = declared_in w.text (pact_tx u t.desk.batches) in
+    let has : Has actors a = among_declared w.text (pact_tx u t.desk.batches) a (k.owing u a (ap (holds (λ x. has_undone u x.entries)) at ∙ undone)) in
+    subst (λ o. Contains (closes_behind w.text u o h) (Close u a)) (sym k.desk)
+    (subst (λ v. Contains (if v then flat_map (close_at u h) actors else []) (Close u a)) (sym result)
+    (in_flat_map (close_at u h) actors a (Close u a) (from_has actors a has) (owed w t h k u a c at undone within)))
 
 close_result : (w : Fixed Rest) (t : Machine Rest) (u a : ℕ) → IsAllowed w (Close u a) t → is_some (pact_result u t.desk.batches) ≡ true
 unfolding conditions
 close_result w t u a c = c.0
-
-from_run : (w : Fixed Rest) (t : Machine Rest) → HasRun w t → 1 ≤ length w.text.opening.states → FromDesk t
-from_run w t run some = subst FromDesk (sym run.is_reached) (all_good w (IsRest w.code (IsTxIn w.text)) run.finish run.events (record { text = run.text; actors = some; facts = run.facts }) run.run).good.from_desk
-
-few_of : (w : Fixed Rest) (t : Machine Rest) → NumbersDrawnOnce w t → (u : ℕ) → times u (flat (map (λ b. map (λ p. p.tid) b.pacts) t.desk.batches)) ≤ 1
-few_of w t n u = omega (arith, n.tids u, times_append u (flat (map (λ b. map (λ p. p.tid) b.pacts) t.desk.batches)) (map (λ x. x.tid) t.book.acts), at_most_one (nat_le w.text.opening.next_tid u && nat_lt u t.ring.next_tid))
 
 -- the cell that was put in
 got : (xs : List (Cell Rest)) (i j : ℕ) (y c : Cell Rest) → slice_get (slice_set xs j y) i ≡ Some c → j ≡ i → c ≡ y
@@ -190,7 +167,7 @@ got (x ∷ xs) (suc i) (suc j) y c e h = got xs i j y c e (omega (arith, h))
 
 module _ (asked : Event → Bool) (w : Fixed Rest) (s : Machine Rest) (h : Parts) (es : List Event) where
   -- what is told of an actor where the event is not
-  told_away : (e : Event) → Asks asked w s e → AllByRecursion (BatchInRange w s) s.desk.batches → Desked (after w e s) h → (cascades a : ℕ) (c : Cell Rest) → a < length h.cells → slice_get (after w e s).cells a ≡ Some c → is_plain e ≡ true → is_abort e ≡ false → here e a ≡ false → Among (cells_listed e h) es → CellTells asked cascades a c es
+  told_away : (e : Event) → Asks asked w s e → AllByRecursion (BatchInRange w s) s.desk.batches → Desked w (after w e s) h → (cascades a : ℕ) (c : Cell Rest) → a < length h.cells → slice_get (after w e s).cells a ≡ Some c → is_plain e ≡ true → is_abort e ≡ false → here e a ≡ false → Among (cells_listed w.text e h) es → CellTells asked cascades a c es
   told_away e g ranges desked cascades a c within at plain z q more =
       let far = away w e s a plain z q in
       record {
@@ -212,12 +189,12 @@ module _ (asked : Event → Bool) (w : Fixed Rest) (s : Machine Rest) (h : Parts
       closed _ g plain t x v = no v
 
   -- after a cascade all
-  abort_listed : (e : Event) (a : ℕ) → a < length h.cells → is_abort e ≡ true → Among (cells_listed e h) es → Among (on_place h a) es
+  abort_listed : (e : Event) (a : ℕ) → a < length h.cells → is_abort e ≡ true → Among (cells_listed w.text e h) es → Among (on_place h a) es
   abort_listed (Abort k) a within z more f c = more f (in_flat_map (on_place h) (below (length h.cells)) a f (in_below a (length h.cells) within) c)
   abort_listed _ a within z more f c = no z
 
   -- a control comes
-  took : (u b : ℕ) → Asks asked w s (Take u b) → (cascades a : ℕ) (c : Cell Rest) → Among (cells_listed (Take u b) h) es → CellTells asked cascades a c es
+  took : (u b : ℕ) → Asks asked w s (Take u b) → (cascades a : ℕ) (c : Cell Rest) → Among (cells_listed w.text (Take u b) h) es → CellTells asked cascades a c es
   took u b g cascades a c more = record {
     run = λ t x y.
         let q = and_parts (b == a) (u == t) (first_only ((b == a) && (u == t)) (g.touched (Run t a) x)) in
@@ -247,15 +224,15 @@ module _ (asked : Event → Bool) (w : Fixed Rest) (s : Machine Rest) (h : Parts
     rollback = λ x y. no (g.touched (Rollback a) x);
   }
 
-  ended : (u b : ℕ) → Asks asked w s (End u b) → Desked (after w (End u b) s) h → (cascades a : ℕ) (c : Cell Rest) → a < length h.cells → slice_get (after w (End u b) s).cells a ≡ Some c → Among (cells_listed (End u b) h) es → CellTells asked cascades a c es
+  ended : (u b : ℕ) → Asks asked w s (End u b) → Desked w (after w (End u b) s) h → (cascades a : ℕ) (c : Cell Rest) → a < length h.cells → slice_get (after w (End u b) s).cells a ≡ Some c → Among (cells_listed w.text (End u b) h) es → CellTells asked cascades a c es
   unfolding after
   ended u b g desked cascades a c within at more = record {
     run = λ t x y. no (g.touched (Run t a) x);
     send = λ t x y. absurd (went (λ x. is_going x.next) u b t a c at (g.touched (Send t a) x) y);
     end = λ t x y. absurd (went (λ x. is_ended x.next) u b t a c at (g.touched (End t a) x) y);
     close = λ t x y.
-        let there = ended_in (after w (End u b) s) h desked t b a c at y (close_result w (after w (End u b) s) t a (g.allowed (Close t a) x)) within in
-        more (Close t a) (subst (λ n. Contains (closes_behind n (who_in n (slice_get h.cells b)) h.desk h) (Close t a)) (sym (eqb-true u t (first_only (u == t) (g.touched (Close t a) x)))) there);
+        let there = ended_in w (after w (End u b) s) h desked t a c at y (close_result w (after w (End u b) s) t a (g.allowed (Close t a) x)) within in
+        more (Close t a) (subst (λ n. Contains (closes_behind w.text n h.desk h) (Close t a)) (sym (eqb-true u t (first_only (u == t) (g.touched (Close t a) x)))) there);
     complete = λ k x y. no (g.touched (Complete k a) x);
     rollback = λ x y. no (g.touched (Rollback a) x);
   }
@@ -311,7 +288,7 @@ module _ (asked : Event → Bool) (w : Fixed Rest) (s : Machine Rest) (h : Parts
   desk_stays k b e = e
 
   -- an ACT asks
-  asked_there : (u b : ℕ) → Asks asked w s (Ask u b) → (cascades a : ℕ) (c : Cell Rest) → b ≡ a → Among (cells_listed (Ask u b) h) es → CellTells asked cascades a c es
+  asked_there : (u b : ℕ) → Asks asked w s (Ask u b) → (cascades a : ℕ) (c : Cell Rest) → b ≡ a → Among (cells_listed w.text (Ask u b) h) es → CellTells asked cascades a c es
   asked_there u b g cascades a c same more = record {
     run = λ t x y. elim (cases_Bool (u == t)) [
       | inl own ↦ subst (λ n. Contains es (Run n a)) (eqb-true u t own) (subst (λ n. Contains es (Run u n)) same (more (Run u b) (first_of_all [] (Run u b))))
@@ -410,7 +387,7 @@ module _ (asked : Event → Bool) (w : Fixed Rest) (s : Machine Rest) (h : Parts
     all_told : (cascades a : ℕ) (c : Cell Rest) → slice_get h.cells a ≡ Some (Some c) → Among (on_place h a) es → CellTells asked cascades a c es
     all_told cascades a c shown among = enough cascades a c (cell_lists asked es cascades a c (λ f x. among f (subst (λ v. Contains v f) (sym (ap (of_place a) shown)) x)))
 
-    here_told : (e : Event) → Asks asked w s e → Desked (after w e s) h → (cascades a : ℕ) (c : Cell Rest) → here e a ≡ true → slice_get (after w e s).cells a ≡ Some c → slice_get h.cells a ≡ Some (Some c) → Among (cells_listed e h) es → CellTells asked cascades a c es
+    here_told : (e : Event) → Asks asked w s e → Desked w (after w e s) h → (cascades a : ℕ) (c : Cell Rest) → here e a ≡ true → slice_get (after w e s).cells a ≡ Some c → slice_get h.cells a ≡ Some (Some c) → Among (cells_listed w.text e h) es → CellTells asked cascades a c es
     here_told (Arrive k b) g desked cascades a c q at shown more = arrived k b g h.desk (desk_stays k b desked.desk) cascades a c (eqb-true b a q) at (shown_among (Arrive k b) h.desk a b c (eqb-true b a q) shown more)
     here_told (Ask u b) g desked cascades a c q at shown more = asked_there u b g cascades a c (eqb-true b a q) more
     here_told (Run u b) g desked cascades a c q at shown more = ran u b g h.desk cascades a c (eqb-true b a q) at (shown_among (Run u b) h.desk a b c (eqb-true b a q) shown more)
@@ -421,13 +398,13 @@ module _ (asked : Event → Bool) (w : Fixed Rest) (s : Machine Rest) (h : Parts
     here_told (Trim j b) g desked cascades a c q at shown more = batch_gone j b g h.desk cascades a c at (shown_among (Trim j b) h.desk a b c (eqb-true b a q) shown more)
     here_told _ g desked cascades a c q at shown more = no q
 
-    plain_told : (e : Event) → is_plain e ≡ true → Asks asked w s e → Desked (after w e s) h → (cascades a : ℕ) (c : Cell Rest) → a < length h.cells → slice_get (after w e s).cells a ≡ Some c → slice_get h.cells a ≡ Some (Some c) → Among (cells_listed e h) es → CellTells asked cascades a c es
+    plain_told : (e : Event) → is_plain e ≡ true → Asks asked w s e → Desked w (after w e s) h → (cascades a : ℕ) (c : Cell Rest) → a < length h.cells → slice_get (after w e s).cells a ≡ Some c → slice_get h.cells a ≡ Some (Some c) → Among (cells_listed w.text e h) es → CellTells asked cascades a c es
     plain_told e plain g desked cascades a c within at shown more = elim (cases_Bool (is_abort e)) [
       | inl z ↦ all_told cascades a c shown (abort_listed e a within z more)
       | inr z ↦ elim (cases_Bool (here e a)) [ inl q ↦ here_told e g desked cascades a c q at shown more | inr q ↦ told_away e g ranges desked cascades a c within at plain z q more ]
     ]
 
-    cell_told : (e : Event) → Asks asked w s e → Desked (after w e s) h → (cascades a : ℕ) (c : Cell Rest) → a < length h.cells → slice_get (after w e s).cells a ≡ Some c → slice_get h.cells a ≡ Some (Some c) → Among (cells_listed e h) es → CellTells asked cascades a c es
+    cell_told : (e : Event) → Asks asked w s e → Desked w (after w e s) h → (cascades a : ℕ) (c : Cell Rest) → a < length h.cells → slice_get (after w e s).cells a ≡ Some c → slice_get h.cells a ≡ Some (Some c) → Among (cells_listed w.text e h) es → CellTells asked cascades a c es
     cell_told (Take u b) g desked cascades a c within at shown more = took u b g cascades a c more
     cell_told (Send u b) g desked cascades a c within at shown more = sent_on u b g cascades a c at
     cell_told (End u b) g desked cascades a c within at shown more = ended u b g desked cascades a c within at more
@@ -446,20 +423,18 @@ is_within w h t places sizes a c at = subst (λ n. a < n) (sizes ∙ sym places.
 pub all_cells_told : (w : Fixed Rest) (e : Event) (s : Machine Rest) (h : Parts) (es : List Event) → IsHandOf w h → IsWhole h → IsBehind w e s h
     → ((w : Fixed Rest) (e : Event) (s : Machine Rest) → (refusal w e s ≡ 0) ↔ IsAllowed w e s)
     → ((w : Fixed Rest) (e : Event) (s : Machine Rest) → HasRun w s → IsAllowed w e s → HasRun w (after w e s))
-    → AfterEveryRun (NumbersDrawnOnce {C = Rest}) → AfterEveryRun (NumbersInRange {C = Rest}) → AfterEveryRun (SizesHold {C = Rest})
+    → AfterEveryRun (UndoneHaveDeclared {C = Rest}) → AfterEveryRun (NumbersInRange {C = Rest}) → AfterEveryRun (SizesHold {C = Rest})
     → ((asked : Event → Bool) (cascades a : ℕ) (c : Cell Rest) (es : List Event) → CellLists asked cascades a c es → CellTells asked cascades a c es)
-    → Among (cells_listed e h) es → (a : ℕ) (c : Cell Rest) → slice_get (after w e s).cells a ≡ Some c → CellTells (is_new w e s) (epoch (after w e s).book) a c es
-all_cells_told w e s h es places whole behind ruled goes drawn ranges sizes enough more a c at =
+    → Among (cells_listed w.text e h) es → (a : ℕ) (c : Cell Rest) → slice_get (after w e s).cells a ≡ Some c → CellTells (is_new w e s) (epoch (after w e s).book) a c es
+all_cells_told w e s h es places whole behind ruled goes owing ranges sizes enough more a c at =
     let run = behind.run in
     let next = goes w e s run behind.allowed in
     let ranged : NumbersInRange w s = subst (NumbersInRange w) (sym run.is_reached) (ranges w run.events run.text run.run) in
     let sized : SizesHold w (after w e s) = subst (SizesHold w) (sym next.is_reached) (sizes w next.events next.text next.run) in
     let within = is_within w h (after w e s) places sized.cells a c at in
-    let once : NumbersDrawnOnce w (after w e s) = subst (NumbersDrawnOnce w) (sym next.is_reached) (drawn w next.events next.text next.run) in
     let desk = desk_there h whole in
-    let desked : Desked (after w e s) h = record {
-      from = from_run w (after w e s) next (omega (arith, within, places.cells));
-      few = few_of w (after w e s) once;
+    let desked : Desked w (after w e s) h = record {
+      owing = subst (UndoneHaveDeclared w) (sym next.is_reached) (owing w next.events next.text next.run);
       desk = desk.1 ∙ ap Some (sym (behind.fits.desk desk.0 desk.1));
       cells = behind.fits.cells;
       there = λ b inside. cell_is_there h whole w.text.logs b places.logs inside;
@@ -472,8 +447,8 @@ all_cells_told w e s h es places whole behind ruled goes drawn ranges sizes enou
 pub not_there : (h : Parts) (a : ℕ) → nat_lt a (length h.cells) ≡ false → slice_get h.cells a ≡ None
 not_there h a e = slice_get_past h.cells a (ltb-false a (length h.cells) e)
 
-pub ended_none : (t : ℕ) (who : Who) (h : Parts) (d : Desk) → h.desk ≡ Some d → is_some (pact_result t d.batches) ≡ false → closes_behind t who h.desk h ≡ []
-ended_none t who h d is e = ap (λ o. closes_behind t who o h) is ∙ ap (λ b. if b then closes_of t who d h else []) e
+pub ended_none : (w : Text) (t : ℕ) (h : Parts) (d : Desk) → h.desk ≡ Some d → is_some (pact_result t d.batches) ≡ false → closes_behind w t h.desk h ≡ []
+ended_none w t h d is e = ap (λ o. closes_behind w t o h) is ∙ ap (λ b. if b then flat_map (close_at t h) (declared_in w (pact_tx t d.batches)) else []) e
 
-pub ended_some : (t : ℕ) (who : Who) (h : Parts) (d : Desk) → h.desk ≡ Some d → is_some (pact_result t d.batches) ≡ true → closes_behind t who h.desk h ≡ closes_of t who d h
-ended_some t who h d is e = ap (λ o. closes_behind t who o h) is ∙ ap (λ b. if b then closes_of t who d h else []) e
+pub ended_some : (w : Text) (t : ℕ) (h : Parts) (d : Desk) → h.desk ≡ Some d → is_some (pact_result t d.batches) ≡ true → closes_behind w t h.desk h ≡ flat_map (close_at t h) (declared_in w (pact_tx t d.batches))
+ended_some w t h d is e = ap (λ o. closes_behind w t o h) is ∙ ap (λ b. if b then flat_map (close_at t h) (declared_in w (pact_tx t d.batches)) else []) e

@@ -79,7 +79,7 @@ noted_no w s d j b k a same here due =
     let its : IsToNote j b d = subst (λ i. IsToNote i b d) (sym (eqb-true j k p.0)) (subst (λ i. IsToNote k i d) (sym (eqb-true b a p.1)) due) in
     both_ways _ (note_fails j b s.desk.batches) (subst (IsToNote j b) (sym same) its)
 
-trimmed_no : (w : Fixed Rest) (s : Machine Rest) (d : Desk) (j b k a : ℕ) → (after w (Trim j b) s).desk ≡ d → ((j == k) && (b == a)) ≡ true → IsToTrim k a d → ⊥
+pub trimmed_no : (w : Fixed Rest) (s : Machine Rest) (d : Desk) (j b k a : ℕ) → (after w (Trim j b) s).desk ≡ d → ((j == k) && (b == a)) ≡ true → IsToTrim k a d → ⊥
 unfolding after
 trimmed_no w s d j b k a same here due =
     let p = and_parts (j == k) (b == a) here in

@@ -15,7 +15,7 @@ use Rattle.protocol.specs.Parts.{Act, Book, Cell, Entry, BatchEntry, Pair, Doome
 use Rattle.protocol.specs.Spread.{carried, raised, crossed_out, is_crossed}
 use Rattle.protocol.specs.Verdicts.{out_of_order}
 use Rattle.protocol.specs.Words.{act_of, control_of, has_act, has_control_to, has_entry, holds, is_batch_entry, is_doomed, is_entry_of, sub_of}
-use Rattle.protocol_ready.proofs.Listing.{Has, from_has, has_filter, has_flat_map, has_map, held, some, found_in}
+use Rattle.protocol_ready.proofs.Listing.{Has, from_has, has_filter, has_flat_map, has_map, held, some, found_in, to_has}
 use Rattle.protocol_ready.proofs.Offered.{sub_found}
 use Rattle.protocol_ready.proofs.TouchedListed.{no}
 use Rattle.listing_facts.specs.hybrid_schedule.Listed.{undone_by, undone_if, undone_in}
@@ -24,7 +24,7 @@ use Rattle.listing_facts.specs.post_box.Posting.{message_to, message_who}
 use Rattle.ready_listing.specs.Listed.{of_control, of_sub, on_post}
 use Rattle.ready_listing.proofs.Lists.{first_of_all, in_flat_map}
 use Rattle.ready_news.specs.InBook.{only}
-use Rattle.ready_news.specs.InPost.{comes_to, goes_to, is_at, is_dropped, is_new_in, is_placed_in, may_in, of_arrival, of_coming, arrivals_to, comings_to, on_control, takes_at, takes_by}
+use Rattle.ready_news.specs.InPost.{arrivals_to, comes_behind, comes_to, comings_to, followers, goes_to, is_at, is_dropped, is_new_in, is_placed_in, may_in, of_arrival, of_coming, of_follower, on_control, takes_at, takes_by}
 
 -- ---- words
 
@@ -71,6 +71,9 @@ place_to f places n a b e h same g = place_in f (places_to b places) (n, a) e (h
 module _ (p : Post Rest) where
   pub arrival_in : (k a b : ℕ) → is_some (sub_of k a p.subs) ≡ true → (b == a) ≡ true → Contains (arrivals_to b p) (Arrive k a)
   arrival_in k a b h e = place_to of_arrival (sub_places p.subs) k a b (Arrive k a) (sub_there k a p.subs h) e (inl refl)
+
+  pub follower_in : (j k a b : ℕ) → is_some (sub_of k a p.subs) ≡ true → (b == a) ≡ true → comes_behind j p (k, a) ≡ true → Contains (followers j b p) (Arrive k a)
+  follower_in j k a b h e g = place_to (of_follower j p) (sub_places p.subs) k a b (Arrive k a) (sub_there k a p.subs h) e (to_has (only (comes_behind j p (k, a)) (Arrive k a)) (Arrive k a) (where_so (comes_behind j p (k, a)) (Arrive k a) g))
 
   pub coming_in : (t a b : ℕ) (e : Event) → has_control_to t a p.controls ≡ true → (b == a) ≡ true → Has (of_coming (t, a)) e → Contains (comings_to b p) e
   coming_in t a b e h same g =

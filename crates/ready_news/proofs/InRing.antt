@@ -1,7 +1,7 @@
 -- What is listed of the ring and of the logs tells what is new there.
-use Rattle.std.specs.Prelude.{◌≡◌, refl, ℕ, ◌+◌, zero, suc, ◌%◌, ◌==◌, nat_lt, not, Bool, true, false, if◌then◌else◌, Option, Some, None, List, [], ◌∷◌, ◌++◌, ◌≤◌, drop, map, length, slice_get, slice_index_or, slice_set, Contains}
+use Rattle.std.specs.Prelude.{◌≡◌, refl, ℕ, ◌+◌, zero, suc, ◌%◌, ◌==◌, nat_lt, not, Bool, true, false, ◌&&◌, if◌then◌else◌, Option, Some, None, List, [], ◌∷◌, ◌++◌, ◌≤◌, drop, map, length, slice_get, slice_index_or, slice_set, Contains}
 use Rattle.std.proofs.Common.{arith, length-append, sym, ap, subst, ◌∙◌}
-use Rattle.std.proofs.lemmas.Bool.{true≢false, eqb-true, eq-eqb, ltb-false, ltb-true}
+use Rattle.std.proofs.lemmas.Bool.{true≢false, and_from, eqb-true, eq-eqb, ltb-false, ltb-true}
 use Rattle.std.proofs.lemmas.List.{length-drop, length-map}
 use Rattle.std.proofs.lemmas.List.Elements.{Contains-append_left, Contains-append_right}
 use Rattle.std.proofs.lemmas.Option.{same_Some}
@@ -15,7 +15,7 @@ use Rattle.snap_hand.specs.log_set.Shown.{ShowsLog, told_bytes}
 use Rattle.snap_hand.specs.token_ring.Asked.{first_waiting}
 use Rattle.protocol.specs.OnRing.{joined_at, next_actors, next_pacts}
 use Rattle.protocol.specs.Records.{LogRecord, BatchInfo, BatchComplete, BatchDone, ActPrepare, ActDone}
-use Rattle.protocol.specs.Parts.{Act, Ring, Log, Machine}
+use Rattle.protocol.specs.Parts.{Act, Book, Desk, Ring, Log, Machine}
 use Rattle.protocol.specs.Words.{act_of, batch_of, count, holds, is_empty, is_live_act, is_live_batch, is_value, value_of, values_of}
 use Rattle.protocol_ready.specs.Telling.{RingTells, LogTells}
 use Rattle.protocol_ready.specs.Touched.{is_touched}
@@ -23,7 +23,7 @@ use Rattle.protocol_ready.proofs.TouchedListed.{no}
 use Rattle.ready_listing.specs.Listed.{on_ring}
 use Rattle.ready_listing.proofs.Lists.{first_of_all, placed}
 use Rattle.ready_news.specs.InBook.{only}
-use Rattle.ready_news.specs.InRing.{is_lone_in, changes_ring, ring_listed, passes, is_first, forms_first, admits_first, forms, admits, forms_if, admits_if, frees_batches, frees_acts, draws, logs_listed}
+use Rattle.ready_news.specs.InRing.{is_lone_in, changes_ring, ring_listed, passes, is_first, forms_first, admits_first, forms, admits, forms_any, admits_any, forms_if, admits_if, frees_batches, frees_acts, draws, all_next, logs_listed}
 use Rattle.ready_news.specs.New.{is_new}
 use Rattle.ready_news.proofs.Common.{Among, new_is_due, new_is_touched, new_was_refused}
 use Rattle.ready_news.proofs.InPost.{where_so}
@@ -55,11 +55,24 @@ as_before w e s f same q = true≢false (sym (new_is_due w e s f q) ∙ (ap (λ 
 no_submit : (w : Fixed Rest) (e : Event) (s : Machine Rest) → (after w e s).ring.next_tx ≡ s.ring.next_tx → is_new w e s (Submit (after w e s).ring.next_tx) ≡ true → nat_lt (after w e s).ring.next_tx (length w.text.txs) ≡ true → ⊥
 no_submit w e s n q a = true≢false (sym (submits w s (after w e s).ring.next_tx n a) ∙ new_was_refused w e s (Submit (after w e s).ring.next_tx) q)
 
-forms_where : (r : Ring) → is_empty (queue r.pacts r.holder) ≡ false → Contains (forms r) (Form r.next_bid)
-forms_where r h = rw h (first_of_all [] (Form r.next_bid))
+-- of three conditions that all hold the last one holds
+third_holds : (a b c : Bool) → (first_false 1 (a ∷ b ∷ c ∷ []) == 0) ≡ true → c ≡ true
+third_holds true true true h = refl
+third_holds true true false h = no h
+third_holds true false c h = no h
+third_holds false b c h = no h
 
-admits_where : (r : Ring) → is_empty (queue r.acts r.holder) ≡ false → Contains (admits r) (Admit r.next_tid)
-admits_where r h = rw h (first_of_all [] (Admit r.next_tid))
+-- what may be formed, or admitted, has room
+form_room : (w : Fixed Rest) (s : Machine Rest) (k : ℕ) → (refusal w (Form k) s == 0) ≡ true → has_room_for_batch w.text s.desk ≡ true
+unfolding refusal conditions
+form_room w s k h = third_holds (k == s.ring.next_bid) (not (lacks_pacts s.ring)) (has_room_for_batch w.text s.desk) h
+
+admit_room : (w : Fixed Rest) (s : Machine Rest) (t : ℕ) → (refusal w (Admit t) s == 0) ≡ true → has_room_for_act w.text s.book ≡ true
+unfolding refusal conditions
+admit_room w s t h = third_holds (t == s.ring.next_tid) (not (lacks_acts s.ring)) (has_room_for_act w.text s.book) h
+
+both_so : (a b : Bool) (f : Event) → a ≡ true → b ≡ true → Contains (only (a && b) f) f
+both_so a b f h g = where_so (a && b) f (and_from a b h g)
 
 pass_where : (coordinators : ℕ) (r : Ring) → is_idle_at r.holder r ≡ true → Contains (passes coordinators r) (Pass ((r.holder + 1) % coordinators))
 pass_where coordinators r h = where_so (is_idle_at r.holder r) (Pass ((r.holder + 1) % coordinators)) h
@@ -122,75 +135,98 @@ admit_same : (w : Fixed Rest) (s t : Machine Rest) (u : ℕ) → t.ring ≡ s.ri
 unfolding refusal conditions
 admit_same w s t u r c = rw (r, c) refl
 
-module _ (w : Fixed Rest) (e : Event) (s : Machine Rest) (framed : Framed w) (r : Ring) (es : List Event) (same : (after w e s).ring ≡ r) where
-  ring_next : Among (on_ring w.text.coordinators r) es → RingTells (is_new w e s) w.text (after w e s).ring es
-  ring_next more =
-      let all = on_ring w.text.coordinators r in
-      let had : (f : Event) (i : ℕ) → slice_get all i ≡ Some f → Contains es f = λ f i g. more f (placed all i f g) in
-      subst (λ x. RingTells (is_new w e s) w.text x es) (sym same) (record {
-        submit = λ q a. had (Submit r.next_tx) 0 refl;
-        pass = λ q a b. had (Pass ((r.holder + 1) % w.text.coordinators)) 1 refl;
-        form = λ q a. had (Form r.next_bid) 2 refl;
-        admit = λ q a. had (Admit r.next_tid) 3 refl;
-      })
+-- ---- what is new has room after the event
 
-  form_drawn : changes_ring e ≡ false → Among (draws e r) es → is_new w e s (Form r.next_bid) ≡ true → is_empty (queue r.pacts r.holder) ≡ false → Contains es (Form r.next_bid)
-  form_drawn h more q a = by (frees_batches e) refl
-    where
-      by : (b : Bool) → frees_batches e ≡ b → Contains es (Form r.next_bid)
-      by true g = more (Form r.next_bid) (Contains-append_left (forms_if (frees_batches e) r) (admits_if (frees_acts e) r) (Form r.next_bid) (subst (λ b. Contains (forms_if b r) (Form r.next_bid)) (sym g) (forms_where r a)))
-      by false g =
-          let as_before = form_same w s (after w e s) r.next_bid (ring_stays w e s h) (batches_counted w e s (framed e s) h g) in
-          absurd (true≢false (sym (new_is_due w e s (Form r.next_bid) q) ∙ (ap (λ n. n == 0) as_before ∙ new_was_refused w e s (Form r.next_bid) q)))
+module _ (w : Fixed Rest) (e : Event) (s : Machine Rest) where
+  abbrev ring_after : Ring
+  ring_after = (after w e s).ring
 
-  admit_drawn : changes_ring e ≡ false → Among (draws e r) es → is_new w e s (Admit r.next_tid) ≡ true → is_empty (queue r.acts r.holder) ≡ false → Contains es (Admit r.next_tid)
-  admit_drawn h more q a = by (frees_acts e) refl
-    where
-      by : (b : Bool) → frees_acts e ≡ b → Contains es (Admit r.next_tid)
-      by true g = more (Admit r.next_tid) (Contains-append_right (forms_if (frees_batches e) r) (admits_if (frees_acts e) r) (Admit r.next_tid) (subst (λ b. Contains (admits_if b r) (Admit r.next_tid)) (sym g) (admits_where r a)))
-      by false g =
-          let as_before = admit_same w s (after w e s) r.next_tid (ring_stays w e s h) (acts_counted w e s (framed e s) h g) in
-          absurd (true≢false (sym (new_is_due w e s (Admit r.next_tid) q) ∙ (ap (λ n. n == 0) as_before ∙ new_was_refused w e s (Admit r.next_tid) q)))
+  abbrev desk_after : Desk
+  desk_after = (after w e s).desk
 
-  ring_draws : changes_ring e ≡ false → Among (draws e r) es → RingTells (is_new w e s) w.text (after w e s).ring es
-  ring_draws h more =
-      let is : r ≡ s.ring = sym same ∙ ring_stays w e s h in
-      subst (λ x. RingTells (is_new w e s) w.text x es) (sym same) (record {
-        submit = λ q a. absurd (true≢false (sym (submits w s r.next_tx (ap (λ x. x.next_tx) is) a) ∙ new_was_refused w e s (Submit r.next_tx) q));
-        pass = λ q a b. absurd (true≢false (sym (passes_then w s ((r.holder + 1) % w.text.coordinators) (ap (λ x. (x.holder + 1) % w.text.coordinators) is) (ap (λ x. is_idle_at x.holder x) (sym is) ∙ a) (ap is_idle (sym is) ∙ b)) ∙ new_was_refused w e s (Pass ((r.holder + 1) % w.text.coordinators)) q));
-        form = λ q a. form_drawn h more q a;
-        admit = λ q a. admit_drawn h more q a;
-      })
+  abbrev book_after : Book
+  book_after = (after w e s).book
+
+  form_in : (waits : Bool) → waits ≡ true → is_new w e s (Form ring_after.next_bid) ≡ true → Contains (forms waits w.text desk_after ring_after) (Form ring_after.next_bid)
+  form_in waits h q = both_so waits (has_room_for_batch w.text desk_after) (Form ring_after.next_bid) h (form_room w (after w e s) ring_after.next_bid (new_is_due w e s (Form ring_after.next_bid) q))
+
+  admit_in : (waits : Bool) → waits ≡ true → is_new w e s (Admit ring_after.next_tid) ≡ true → Contains (admits waits w.text book_after ring_after) (Admit ring_after.next_tid)
+  admit_in waits h q = both_so waits (has_room_for_act w.text book_after) (Admit ring_after.next_tid) h (admit_room w (after w e s) ring_after.next_tid (new_is_due w e s (Admit ring_after.next_tid) q))
+
+  form_any_in : lacks_pacts ring_after ≡ false → is_new w e s (Form ring_after.next_bid) ≡ true → Contains (forms_any w.text desk_after ring_after) (Form ring_after.next_bid)
+  form_any_in a q = form_in (not (lacks_pacts ring_after)) (ap not a) q
+
+  admit_any_in : lacks_acts ring_after ≡ false → is_new w e s (Admit ring_after.next_tid) ≡ true → Contains (admits_any w.text book_after ring_after) (Admit ring_after.next_tid)
+  admit_any_in a q = admit_in (not (lacks_acts ring_after)) (ap not a) q
+
+  module _ (framed : Framed w) (es : List Event) where
+    ring_next : Among (on_ring w.text.coordinators ring_after) es → RingTells (is_new w e s) w.text ring_after es
+    ring_next more =
+        let all = on_ring w.text.coordinators ring_after in
+        let had : (f : Event) (i : ℕ) → slice_get all i ≡ Some f → Contains es f = λ f i g. more f (placed all i f g) in
+        record {
+          submit = λ q a. had (Submit ring_after.next_tx) 0 refl;
+          pass = λ q a b. had (Pass ((ring_after.holder + 1) % w.text.coordinators)) 1 refl;
+          form = λ q a. had (Form ring_after.next_bid) 2 refl;
+          admit = λ q a. had (Admit ring_after.next_tid) 3 refl;
+        }
+
+    form_drawn : changes_ring e ≡ false → Among (draws e w.text desk_after book_after ring_after) es → is_new w e s (Form ring_after.next_bid) ≡ true → lacks_pacts ring_after ≡ false → Contains es (Form ring_after.next_bid)
+    form_drawn h more q a = by (frees_batches e) refl
+      where
+        by : (c : Bool) → frees_batches e ≡ c → Contains es (Form ring_after.next_bid)
+        by true g = more (Form ring_after.next_bid) (Contains-append_left (forms_if (frees_batches e) w.text desk_after ring_after) (admits_if (frees_acts e) w.text book_after ring_after) (Form ring_after.next_bid) (subst (λ c. Contains (forms_if c w.text desk_after ring_after) (Form ring_after.next_bid)) (sym g) (form_any_in a q)))
+        by false g = absurd (as_before w e s (Form ring_after.next_bid) (form_same w s (after w e s) ring_after.next_bid (ring_stays w e s h) (batches_counted w e s (framed e s) h g)) q)
+
+    admit_drawn : changes_ring e ≡ false → Among (draws e w.text desk_after book_after ring_after) es → is_new w e s (Admit ring_after.next_tid) ≡ true → lacks_acts ring_after ≡ false → Contains es (Admit ring_after.next_tid)
+    admit_drawn h more q a = by (frees_acts e) refl
+      where
+        by : (c : Bool) → frees_acts e ≡ c → Contains es (Admit ring_after.next_tid)
+        by true g = more (Admit ring_after.next_tid) (Contains-append_right (forms_if (frees_batches e) w.text desk_after ring_after) (admits_if (frees_acts e) w.text book_after ring_after) (Admit ring_after.next_tid) (subst (λ c. Contains (admits_if c w.text book_after ring_after) (Admit ring_after.next_tid)) (sym g) (admit_any_in a q)))
+        by false g = absurd (as_before w e s (Admit ring_after.next_tid) (admit_same w s (after w e s) ring_after.next_tid (ring_stays w e s h) (acts_counted w e s (framed e s) h g)) q)
+
+    ring_draws : changes_ring e ≡ false → Among (draws e w.text desk_after book_after ring_after) es → RingTells (is_new w e s) w.text ring_after es
+    ring_draws h more =
+        let is : ring_after ≡ s.ring = ring_stays w e s h in
+        record {
+          submit = λ q a. absurd (no_submit w e s (ap (λ x. x.next_tx) is) q a);
+          pass = λ q a b. absurd (true≢false (sym (passes_then w s ((ring_after.holder + 1) % w.text.coordinators) (ap (λ x. (x.holder + 1) % w.text.coordinators) is) (ap (λ x. is_idle_at x.holder x) (sym is) ∙ a) (ap is_idle (sym is) ∙ b)) ∙ new_was_refused w e s (Pass ((ring_after.holder + 1) % w.text.coordinators)) q));
+          form = λ q a. form_drawn h more q a;
+          admit = λ q a. admit_drawn h more q a;
+        }
 
 module _ (w : Fixed Rest) (s : Machine Rest) (es : List Event) where
   abbrev Told : Event → Type 0
-  Told e = Among (ring_listed w.text.coordinators e (after w e s).ring) es → RingTells (is_new w e s) w.text (after w e s).ring es
+  Told e = Among (ring_listed e w.text (after w e s).desk (after w e s).book (after w e s).ring) es → RingTells (is_new w e s) w.text (after w e s).ring es
 
   submit_told : (n : ℕ) → Told (Submit n)
   submit_told n more =
-      let r = (after w (Submit n) s).ring in
+      let e = Submit n in
+      let r = (after w e s).ring in
       let token = passes w.text.coordinators r in
-      let draw = forms_first n r ++ admits_first n r in
-      let rest : Among (token ++ draw) es = λ f c. more f (Contains-append_right (Submit r.next_tx ∷ []) (token ++ draw) f c) in
-      let drawn : Among draw es = λ f c. rest f (Contains-append_right token draw f c) in
+      let batches = forms_first n w.text (after w e s).desk r in
+      let acts = admits_first n w.text (after w e s).book r in
+      let first : Among ((Submit r.next_tx ∷ []) ++ (token ++ batches)) es = λ f c. more f (Contains-append_left ((Submit r.next_tx ∷ []) ++ (token ++ batches)) acts f c) in
+      let rest : Among (token ++ batches) es = λ f c. first f (Contains-append_right (Submit r.next_tx ∷ []) (token ++ batches) f c) in
       record {
-        submit = λ q a. more (Submit r.next_tx) (Contains-append_left (Submit r.next_tx ∷ []) (token ++ draw) (Submit r.next_tx) (first_of_all [] (Submit r.next_tx)));
-        pass = λ q a b. rest (Pass ((r.holder + 1) % w.text.coordinators)) (Contains-append_left token draw (Pass ((r.holder + 1) % w.text.coordinators)) (pass_where w.text.coordinators r a));
-        form = λ q a. drawn (Form r.next_bid) (Contains-append_left (forms_first n r) (admits_first n r) (Form r.next_bid) (where_so (is_first n (first_waiting (queue r.pacts r.holder))) (Form r.next_bid) (form_first w s n r.next_bid q a)));
-        admit = λ q a. drawn (Admit r.next_tid) (Contains-append_right (forms_first n r) (admits_first n r) (Admit r.next_tid) (where_so (is_first n (first_waiting (queue r.acts r.holder))) (Admit r.next_tid) (admit_first w s n r.next_tid q a)));
+        submit = λ q a. first (Submit r.next_tx) (Contains-append_left (Submit r.next_tx ∷ []) (token ++ batches) (Submit r.next_tx) (first_of_all [] (Submit r.next_tx)));
+        pass = λ q a b. rest (Pass ((r.holder + 1) % w.text.coordinators)) (Contains-append_left token batches (Pass ((r.holder + 1) % w.text.coordinators)) (pass_where w.text.coordinators r a));
+        form = λ q a. rest (Form r.next_bid) (Contains-append_right token batches (Form r.next_bid) (form_in w e s (is_first n (first_waiting (queue r.pacts r.holder))) (form_first w s n r.next_bid q a) q));
+        admit = λ q a. more (Admit r.next_tid) (Contains-append_right ((Submit r.next_tx ∷ []) ++ (token ++ batches)) acts (Admit r.next_tid) (admit_in w e s (is_first n (first_waiting (queue r.acts r.holder))) (admit_first w s n r.next_tid q a) q));
       }
 
-  next_told : (e : Event) → (after w e s).ring.next_tx ≡ s.ring.next_tx → Among (passes w.text.coordinators (after w e s).ring ++ (forms (after w e s).ring ++ admits (after w e s).ring)) es → RingTells (is_new w e s) w.text (after w e s).ring es
+  next_told : (e : Event) → (after w e s).ring.next_tx ≡ s.ring.next_tx → Among (all_next w.text (after w e s).desk (after w e s).book (after w e s).ring) es → RingTells (is_new w e s) w.text (after w e s).ring es
   next_told e same more =
       let r = (after w e s).ring in
       let token = passes w.text.coordinators r in
-      let draw = forms r ++ admits r in
-      let drawn : Among draw es = λ f c. more f (Contains-append_right token draw f c) in
+      let batches = forms_any w.text (after w e s).desk r in
+      let acts = admits_any w.text (after w e s).book r in
+      let first : Among (token ++ batches) es = λ f c. more f (Contains-append_left (token ++ batches) acts f c) in
       record {
         submit = λ q a. absurd (no_submit w e s same q a);
-        pass = λ q a b. more (Pass ((r.holder + 1) % w.text.coordinators)) (Contains-append_left token draw (Pass ((r.holder + 1) % w.text.coordinators)) (pass_where w.text.coordinators r a));
-        form = λ q a. drawn (Form r.next_bid) (Contains-append_left (forms r) (admits r) (Form r.next_bid) (forms_where r a));
-        admit = λ q a. drawn (Admit r.next_tid) (Contains-append_right (forms r) (admits r) (Admit r.next_tid) (admits_where r a));
+        pass = λ q a b. first (Pass ((r.holder + 1) % w.text.coordinators)) (Contains-append_left token batches (Pass ((r.holder + 1) % w.text.coordinators)) (pass_where w.text.coordinators r a));
+        form = λ q a. first (Form r.next_bid) (Contains-append_right token batches (Form r.next_bid) (form_any_in w e s a q));
+        admit = λ q a. more (Admit r.next_tid) (Contains-append_right (token ++ batches) acts (Admit r.next_tid) (admit_any_in w e s a q));
       }
 
   pass_told : (c : ℕ) → Told (Pass c)
@@ -206,20 +242,21 @@ module _ (w : Fixed Rest) (s : Machine Rest) (es : List Event) where
   admit_told t more =
       let r = (after w (Admit t) s).ring in
       let token = passes w.text.coordinators r in
+      let acts = admits_any w.text (after w (Admit t) s).book r in
       record {
         submit = λ q a. absurd (no_submit w (Admit t) s refl q a);
-        pass = λ q a b. more (Pass ((r.holder + 1) % w.text.coordinators)) (Contains-append_left token (admits r) (Pass ((r.holder + 1) % w.text.coordinators)) (pass_where w.text.coordinators r a));
+        pass = λ q a b. more (Pass ((r.holder + 1) % w.text.coordinators)) (Contains-append_left token acts (Pass ((r.holder + 1) % w.text.coordinators)) (pass_where w.text.coordinators r a));
         form = λ q a. absurd (as_before w (Admit t) s (Form r.next_bid) (admit_forms w s t r.next_bid) q);
-        admit = λ q a. more (Admit r.next_tid) (Contains-append_right token (admits r) (Admit r.next_tid) (admits_where r a));
+        admit = λ q a. more (Admit r.next_tid) (Contains-append_right token acts (Admit r.next_tid) (admit_any_in w (Admit t) s a q));
       }
 
-pub ring_told : (w : Fixed Rest) (e : Event) (s : Machine Rest) → Framed w → (r : Ring) (es : List Event) → (after w e s).ring ≡ r → Among (ring_listed w.text.coordinators e r) es → RingTells (is_new w e s) w.text (after w e s).ring es
-ring_told w (Submit n) s framed r es same more = submit_told w s es n (subst (λ x. Among (ring_listed w.text.coordinators (Submit n) x) es) (sym same) more)
-ring_told w (Pass c) s framed r es same more = pass_told w s es c (subst (λ x. Among (ring_listed w.text.coordinators (Pass c) x) es) (sym same) more)
-ring_told w (Form k) s framed r es same more = form_told w s es k (subst (λ x. Among (ring_listed w.text.coordinators (Form k) x) es) (sym same) more)
-ring_told w (Admit t) s framed r es same more = admit_told w s es t (subst (λ x. Among (ring_listed w.text.coordinators (Admit t) x) es) (sym same) more)
-ring_told w (Abort k) s framed r es same more = ring_next w (Abort k) s framed r es same more
-ring_told w e s framed r es same more = ring_draws w e s framed r es same refl more
+pub ring_told : (w : Fixed Rest) (e : Event) (s : Machine Rest) → Framed w → (es : List Event) → Among (ring_listed e w.text (after w e s).desk (after w e s).book (after w e s).ring) es → RingTells (is_new w e s) w.text (after w e s).ring es
+ring_told w (Submit n) s framed es more = submit_told w s es n more
+ring_told w (Pass c) s framed es more = pass_told w s es c more
+ring_told w (Form k) s framed es more = form_told w s es k more
+ring_told w (Admit t) s framed es more = admit_told w s es t more
+ring_told w (Abort k) s framed es more = ring_next w (Abort k) s framed es more
+ring_told w e s framed es more = ring_draws w e s framed es refl more
 
 -- ---- the logs
 

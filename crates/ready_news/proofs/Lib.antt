@@ -1,6 +1,5 @@
 pub mod Common
 pub mod Behind
-pub mod Fallen
 pub mod InDesk
 pub mod BookBefore
 pub mod NotDurable
@@ -21,8 +20,8 @@ pub mod InPost
 pub mod NewDrops
 pub mod NewBatches
 pub mod PostTold
-pub mod Closing
+pub mod NoneFell
 pub mod Waking
 pub mod InCells
-pub mod Together
 pub mod AheadOfSync
+pub mod ByEvent

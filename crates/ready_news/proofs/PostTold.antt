@@ -1,5 +1,6 @@
 -- By each event, what is listed of what is under way tells what is new there.
 use Rattle.std.specs.Prelude.{◌≡◌, ◌↔◌, refl, ℕ, zero, suc, ◌≤◌, ◌==◌, not, Bool, true, false, ◌&&◌, ◌||◌, if◌then◌else◌, is_some, Option, Some, None, List, [], ◌∷◌, ◌++◌, map, filter, slice_get, slice_set, slice_index_or, Contains}
+use Rattle.std.specs.Option.{option_map}
 use Rattle.std.specs.List.{list_any, AllByRecursion}
 use Rattle.std.proofs.Common.{sym, ap, subst, inl, inr, ◌∙◌}
 use Rattle.std.proofs.lemmas.Bool.{true≢false, and_parts, eqb-true, eq-eqb, cases_Bool}
@@ -31,14 +32,14 @@ use Rattle.protocol_ready.proofs.TouchedParts.{find_filter}
 use Rattle.snap_hand.specs.Hands.{Parts}
 use Rattle.ready_news.specs.New.{IsBehind, is_new}
 use Rattle.ready_news.specs.InBook.{only}
-use Rattle.ready_news.specs.InPost.{arrivals_to, comings_to, formed_listed, given_up_drops, goes_to, of_drops, of_post, of_sent, on_control, takes_by}
+use Rattle.ready_news.specs.InPost.{arrivals_to, comes_behind, comings_to, followers, formed_listed, given_up_drops, goes_to, is_at, of_drops, of_post, of_sent, on_control, takes_by}
 use Rattle.ready_listing.specs.Listed.{on_post}
 use Rattle.ready_news.proofs.Common.{Among, new_is_touched, new_is_allowed, new_was_refused}
 use Rattle.ready_news.proofs.AfterRuns.{Holding, IsOwn, on_schedule}
 use Rattle.ready_news.proofs.Asking.{behind_at, group_at, older_at}
 use Rattle.ready_news.proofs.GivenUp.{Known, arrival_fallen, ask_fallen}
 use Rattle.ready_news.proofs.NewBatches.{AreDrawn, are_drawn, formed_arrives, formed_asks, formed_drops, formed_drops_sub, formed_takes}
-use Rattle.ready_news.proofs.InPost.{AreShown, left_or, find_gone, goes_where, let_in, nowhere, arrival_in, ask_in_control, coming_in, drop_in_control, take_in_control, where_so, all_subs, all_controls, all_drops, holds_back, crossed_back, raised_back, changed_back}
+use Rattle.ready_news.proofs.InPost.{AreShown, left_or, find_gone, goes_where, let_in, nowhere, arrival_in, ask_in_control, coming_in, drop_in_control, take_in_control, where_so, all_subs, all_controls, all_drops, holds_back, crossed_back, raised_back, changed_back, follower_in}
 use Rattle.ready_news.proofs.NewDrops.{IsGivenUp, all_are, crossed_found, fallen_dropped, joined_doom, lowered_doom}
 
 -- ---- what was taken is gone, and the rest is there
@@ -190,7 +191,7 @@ finish_asks w u b s t a n c = (c.0, (changed_back (λ x. not (is_doomed x.status
 
 -- ---- whose control it is
 
-not_who : (e : Event) (s : Machine Rest) (o : Option (ControlMessage Rest)) → ((t : ℕ) → changes_doom e s t ≡ false) → holds (λ m. changes_who e s m.who) o ≡ true → ⊥
+pub not_who : (e : Event) (s : Machine Rest) (o : Option (ControlMessage Rest)) → ((t : ℕ) → changes_doom e s t ≡ false) → holds (λ m. changes_who e s m.who) o ≡ true → ⊥
 not_who e s None quiet h = true≢false (sym h)
 not_who e s (Some m) quiet h = by m.who h
   where
@@ -288,10 +289,21 @@ ask_dropped asked w s u b t before later g q other =
 -- ---- a control that a sub-batch lets in
 
 -- the cell that was put in
-put_there : (xs : List (Cell Rest)) (i : ℕ) (y c : Cell Rest) → slice_get (slice_set xs i y) i ≡ Some c → c ≡ y
+pub put_there : (xs : List (Cell Rest)) (i : ℕ) (y c : Cell Rest) → slice_get (slice_set xs i y) i ≡ Some c → c ≡ y
 put_there [] i y c e = absurd (cc e)
 put_there (x ∷ xs) zero y c e = sym (same_Some y c e)
 put_there (x ∷ xs) (suc i) y c e = put_there xs i y c e
+
+-- what may come after an arrival comes behind that batch
+arrive_follows : (w : Fixed Rest) (j b : ℕ) (s : Machine Rest) (k a : ℕ) → (b == a) ≡ true → IsAllowed w (Arrive k a) (after w (Arrive j b) s) → comes_behind j (after w (Arrive j b) s).post (k, a) ≡ true
+unfolding conditions after
+arrive_follows w j b s k a e c =
+    let y = batch_placed j (sub_of j b s.post.subs) (cell_at s b) in
+    let xs = slice_set s.cells b y in
+    let m = held (λ (m : SubBatch). holds (λ (z : Cell Rest). m.prev == z.tail) (slice_get xs a)) (sub_of k a (sub_taken j b s.post).subs) c.1.1.1.0 in
+    let z = held (λ (z : Cell Rest). m.it.prev == z.tail) (slice_get xs a) m.does in
+    let same : z.it ≡ y = put_there s.cells b y z.it (subst (λ n. slice_get xs n ≡ Some z.it) (sym (eqb-true b a e)) z.is) in
+    ap (λ (o : Option SubBatch). is_at j (option_map (λ (x : SubBatch). x.prev) o)) m.is ∙ subst (λ n. (m.it.prev == n) ≡ true) (ap (λ (v : Cell Rest). v.tail) same) z.does
 
 let_here : (w : Fixed Rest) (k b : ℕ) (s : Machine Rest) (t : ℕ) (cells : List (Option (Cell Rest))) → AreShown cells (after w (Arrive k b) s).cells → IsAllowed w (Take t b) (after w (Arrive k b) s) → (IsAllowed w (Take t b) s → ⊥)
     → Contains (takes_by k b (slice_get cells b) (after w (Arrive k b) s).post) (Take t b)
@@ -317,7 +329,7 @@ arrive_takes w k b s t a cells shown e c refused =
 
 module _ (asked : Event → Bool) (w : Fixed Rest) (s : Machine Rest) (before : Holding w s) (cells : List (Option (Cell Rest))) (es : List Event) where
   abbrev Told : Event → Type 0
-  Told e = Holding w (after w e s) → Asks asked w s e → Around w s e cells → Among (of_post e cells (after w e s).desk (after w e s).post) es → Among (of_sent e cells (after w e s).book (after w e s).post) es → Among (of_drops e (after w e s).book) es → PostTells asked (after w e s).post es
+  Told e = Holding w (after w e s) → Asks asked w s e → Around w s e cells → Among (of_post e cells (after w e s).desk (after w e s).post) es → Among (of_sent e cells (after w e s).book (after w e s).post) es → ((t : ℕ) → asked (DropControl t) ≡ true → Contains (of_drops e (after w e s).book) (DropControl t) → Contains es (DropControl t)) → PostTells asked (after w e s).post es
 
   all_told : (p : Post Rest) → Among (on_post p) es → PostTells asked p es
   all_told p more = record {
@@ -386,11 +398,13 @@ module _ (asked : Event → Bool) (w : Fixed Rest) (s : Machine Rest) (before : 
   arrive_told j b later g around more sent drops =
       let p = (after w (Arrive j b) s).post in
       record {
-        arrive = λ k a q h. more (Arrive k a) (Contains-append_left (arrivals_to b p) (takes_by j b (slice_get cells b) p) (Arrive k a) (arrival_in p k a b h (either_way ((j == k) && (b == a)) (b == a) (g.touched (Arrive k a) q) (λ x. (and_parts (j == k) (b == a) x).1) (λ x. x))));
+        arrive = λ k a q h.
+            let there = either_way ((j == k) && (b == a)) (b == a) (g.touched (Arrive k a) q) (λ x. (and_parts (j == k) (b == a) x).1) (λ x. x) in
+            more (Arrive k a) (Contains-append_left (followers j b p) (takes_by j b (slice_get cells b) p) (Arrive k a) (follower_in p j k a b h there (arrive_follows w j b s k a there (g.allowed (Arrive k a) q))));
         drop_sub = λ k a q h. absurd (is_no_none (sub_of k a p.subs) (gone_sub j b k a s.post.subs (g.touched (DropSub k a) q)) h);
         ask = λ t a q h. absurd (g.refused (Ask t a) q (arrive_asks w j b s t a (g.allowed (Ask t a) q)));
-        take = λ t a q h. more (Take t a) (Contains-append_right (arrivals_to b p) (takes_by j b (slice_get cells b) p) (Take t a) (arrive_takes w j b s t a cells around.shown (g.touched (Take t a) q) (g.allowed (Take t a) q) (g.refused (Take t a) q)));
-        drop_control = λ t q h. drops (DropControl t) (arrival_dropped asked w s j b t before later g q);
+        take = λ t a q h. more (Take t a) (Contains-append_right (followers j b p) (takes_by j b (slice_get cells b) p) (Take t a) (arrive_takes w j b s t a cells around.shown (g.touched (Take t a) q) (g.allowed (Take t a) q) (g.refused (Take t a) q)));
+        drop_control = λ t q h. drops t q (arrival_dropped asked w s j b t before later g q);
       }
 
   ask_told : (u b : ℕ) → Told (Ask u b)
@@ -408,7 +422,7 @@ module _ (asked : Event → Bool) (w : Fixed Rest) (s : Machine Rest) (before : 
         ];
         drop_control = λ t q h. elim (cases_Bool (u == t)) [
           | inl e ↦ absurd (is_no_none (control_of t p.controls) (gone t e) h)
-          | inr e ↦ drops (DropControl t) (ask_dropped asked w s u b t before later g q e)
+          | inr e ↦ drops t q (ask_dropped asked w s u b t before later g q e)
         ];
       }
 

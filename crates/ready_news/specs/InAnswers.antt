@@ -1,15 +1,16 @@
 -- What is listed of replies after an event: of the transactions that it may have given a verdict.
 use Rattle.std.specs.Prelude.{ℕ, ◌-◌, Bool, true, false, Option, Some, None, List, [], ◌∷◌, ◌++◌}
 use Rattle.std.specs.List.{flat_map}
+use Rattle.aml_slice.specs.Controls.{Rest}
 use Rattle.listing_facts.specs.batch_table.Listed.{txs_at}
 use Rattle.ready_listing.specs.Listed.{of_reply}
 use Rattle.book_part.specs.order_book.Asked.{tx_of}
 use Rattle.protocol.specs.Conditions.{may_leave}
 use Rattle.protocol.specs.Events.{Event, Arrive, Ask, End, Settle, Abort, Decide, Seal, Reply}
 use Rattle.protocol.specs.Numbers.{from}
-use Rattle.protocol.specs.Parts.{Book, Desk}
+use Rattle.protocol.specs.Parts.{Book, Cell, Desk}
 use Rattle.protocol.specs.Words.{act_of, batch_of}
-use Rattle.ready_news.specs.GivenUp.{given_up_tids}
+use Rattle.ready_news.specs.GivenUp.{given_up_by, given_up_tids}
 
 abbrev pub replies_of : Option ℕ → List Event
 replies_of None = []
@@ -63,3 +64,7 @@ of_acts_with b e tids = of_acts b e
 
 abbrev pub by_answers : ℕ → Book → Desk → Event → List Event
 by_answers next b d e = of_batches next d e ++ of_acts b e
+
+-- where those are looked for by the event and these cells
+abbrev pub answers_listed : ℕ → Event → List (Option (Cell Rest)) → Book → Desk → List Event
+answers_listed next e cells b d = of_batches next d e ++ of_acts_with b e (given_up_by e cells b)

@@ -1,15 +1,16 @@
 -- What is listed of ACTs after an event: what the ACT that it names may go on with, which live ones may be decided, and of those
 -- that are given up the actors that they have still to leave. What waits for a record to be durable, as its votes and its seal do,
 -- is listed with the sync, and not here.
-use Rattle.std.specs.Prelude.{ℕ, Bool, true, false, ◌&&◌, List, [], ◌∷◌, ◌++◌}
+use Rattle.std.specs.Prelude.{ℕ, Bool, true, false, ◌&&◌, Option, List, [], ◌∷◌, ◌++◌}
 use Rattle.std.specs.List.{flat_map}
+use Rattle.aml_slice.specs.Controls.{Rest}
 use Rattle.book_part.specs.Listed.{live_tids}
 use Rattle.protocol.specs.Conditions.{gives_value, is_not_prepared, awaits_decision, failed_or_vouched, may_leave, has_not_left}
 use Rattle.protocol.specs.Events.{Event, Arrive, Ask, End, Settle, Abort, Prepare, Vouch, Decide, Seal, Finish}
-use Rattle.protocol.specs.Parts.{Book}
+use Rattle.protocol.specs.Parts.{Book, Cell}
 use Rattle.protocol.specs.Words.{act_of}
 use Rattle.protocol_theorems.specs.BookFits.{actors_at}
-use Rattle.ready_news.specs.GivenUp.{given_up_tids}
+use Rattle.ready_news.specs.GivenUp.{given_up_by, given_up_tids}
 
 -- an event, where this is so
 abbrev pub only : Bool → Event → List Event
@@ -67,3 +68,7 @@ by_book_with b (Arrive k a) tids = flat_map (leaving_of b) tids
 by_book_with b (Ask t a) tids = flat_map (leaving_of b) tids
 by_book_with b (Abort k) tids = flat_map (leaving_of b) tids
 by_book_with b e tids = by_book b e
+
+-- where those are looked for by the event and these cells
+abbrev pub book_listed : Event → List (Option (Cell Rest)) → Book → List Event
+book_listed e cells b = by_book_with b e (given_up_by e cells b)

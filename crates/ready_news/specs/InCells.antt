@@ -2,14 +2,15 @@
 use Rattle.std.specs.Prelude.{ℕ, Bool, false, if◌then◌else◌, Option, Some, None, is_some, List, [], ◌∷◌, ◌++◌, length, map, filter, slice_get}
 use Rattle.std.specs.List.{flat_map}
 use Rattle.aml_slice.specs.Controls.{Rest}
-use Rattle.listing_facts.specs.batch_table.Listed.{actors_in}
+use Rattle.listing_facts.specs.batch_table.Listed.{pact_tx}
 use Rattle.listing_facts.specs.hybrid_schedule.Listed.{completable_on, undone_by}
 use Rattle.listing_facts.specs.hybrid_schedule.Schedules.{can_run}
 use Rattle.ready_listing.specs.Listed.{of_waiting, on_place}
 use Rattle.protocol.specs.Conditions.{has_ended_on, has_gone_on}
 use Rattle.protocol.specs.Events.{Event, Arrive, Ask, Take, Run, Send, End, Close, Complete, Abort, Rollback, Finish, Trim}
-use Rattle.protocol.specs.Parts.{Who, OfBatch, OfAct, Desk, Cell}
-use Rattle.protocol.specs.Words.{batch_of, below, has_undone, pact_result, who_on}
+use Rattle.protocol.specs.Fixed.{Text, declared, tx_at}
+use Rattle.protocol.specs.Parts.{Desk, Cell}
+use Rattle.protocol.specs.Words.{below, has_undone, pact_result}
 use Rattle.snap_hand.specs.Hands.{Parts}
 use Rattle.ready_news.specs.InBook.{only}
 
@@ -71,13 +72,6 @@ of_actor e h (Some a) = of_shown (on_changed e h.desk a) (slice_get h.cells a)
 
 -- ---- a PACT that ended
 
-abbrev pub of_close : ℕ → ℕ → List Event
-of_close t a = Close t a ∷ []
-
--- where a PACT may owe nothing any more
-abbrev pub closes : ℕ → Parts → List Event
-closes t h = flat_map (of_close t) (below (length h.cells))
-
 -- whether it owes an actor something still, as the actor's cell tells
 abbrev pub owes : ℕ → Option (Option (Cell Rest)) → Bool
 owes t None = false
@@ -87,28 +81,22 @@ owes t (Some (Some c)) = has_undone t c.entries
 abbrev pub close_at : ℕ → Parts → ℕ → List Event
 close_at t h a = only (owes t (slice_get h.cells a)) (Close t a)
 
--- whose a transaction is, as the cell of an actor tells
-abbrev pub who_in : ℕ → Option (Option (Cell Rest)) → Who
-who_in t None = OfAct t
-who_in t (Some None) = OfAct t
-who_in t (Some (Some c)) = who_on t c.entries
+-- the actors that a transaction has declared, where there is one
+abbrev pub declared_in : Text → Option ℕ → List ℕ
+declared_in w None = []
+declared_in w (Some n) = declared (tx_at w n)
 
--- on those actors of its batch that it owes something; where no batch is told, on all
-abbrev pub closes_of : ℕ → Who → Desk → Parts → List Event
-closes_of t (OfBatch k) d h = flat_map (close_at t h) (actors_in (batch_of k d.batches))
-closes_of t (OfAct u) d h = closes t h
-
--- where the desk has its result
-abbrev pub closes_behind : ℕ → Who → Option Desk → Parts → List Event
-closes_behind t who None h = []
-closes_behind t who (Some d) h = if is_some (pact_result t d.batches) then closes_of t who d h else []
+-- where the desk has its result, of the actors that it has declared those that it owes something
+abbrev pub closes_behind : Text → ℕ → Option Desk → Parts → List Event
+closes_behind w t None h = []
+closes_behind w t (Some d) h = if is_some (pact_result t d.batches) then flat_map (close_at t h) (declared_in w (pact_tx t d.batches)) else []
 
 -- ---- by event: after a cascade all, and what stays of an actor that follows one; where a control comes, its Run
 
-abbrev pub cells_listed : Event → Parts → List Event
-cells_listed (Abort k) h = flat_map (on_place h) (below (length h.cells))
-cells_listed (Rollback a) h = on_place h a
-cells_listed (Ask t a) h = Run t a ∷ []
-cells_listed (Take t a) h = Run t a ∷ []
-cells_listed (End t a) h = closes_behind t (who_in t (slice_get h.cells a)) h.desk h
-cells_listed e h = of_actor e h (changed_actor e)
+abbrev pub cells_listed : Text → Event → Parts → List Event
+cells_listed w (Abort k) h = flat_map (on_place h) (below (length h.cells))
+cells_listed w (Rollback a) h = on_place h a
+cells_listed w (Ask t a) h = Run t a ∷ []
+cells_listed w (Take t a) h = Run t a ∷ []
+cells_listed w (End t a) h = closes_behind w t h.desk h
+cells_listed w e h = of_actor e h (changed_actor e)

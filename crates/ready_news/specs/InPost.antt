@@ -12,9 +12,14 @@ use Rattle.listing_facts.specs.post_box.Posting.{message_to, message_who}
 use Rattle.protocol.specs.Conditions.{is_given_up, is_not_doomed}
 use Rattle.protocol.specs.Events.{Event, Form, Admit, Arrive, Ask, Take, Send, Abort, Rollback, DropControl, Finish}
 use Rattle.protocol.specs.Parts.{Book, Cell, Desk, Post}
-use Rattle.protocol.specs.Words.{batch_of, control_of, has_act, has_entry, holds}
-use Rattle.ready_news.specs.GivenUp.{given_up_tids}
+use Rattle.protocol.specs.Words.{batch_of, control_of, has_act, has_entry, holds, sub_of}
+use Rattle.ready_news.specs.GivenUp.{given_up_by, given_up_tids}
 use Rattle.ready_news.specs.InBook.{only}
+
+-- there is a number, and it is this one
+abbrev pub is_at : ℕ → Option ℕ → Bool
+is_at a None = false
+is_at a (Some b) = b == a
 
 -- ---- the events of what is under way
 
@@ -34,6 +39,17 @@ comings_to a p = flat_map of_coming (places_to a (control_places p.controls))
 
 abbrev pub all_to : ℕ → Post Rest → List Event
 all_to a p = arrivals_to a p ++ comings_to a p
+
+-- the sub-batch that is told by its batch and its actor comes behind batch k there
+abbrev pub comes_behind : ℕ → Post Rest → ℕ × ℕ → Bool
+comes_behind k p q = is_at k (option_map (λ m. m.prev) (sub_of q.0 q.1 p.subs))
+
+abbrev pub of_follower : ℕ → Post Rest → ℕ × ℕ → List Event
+of_follower k p q = only (comes_behind k p q) (Arrive q.0 q.1)
+
+-- of those to this actor the one that comes behind batch k there
+abbrev pub followers : ℕ → ℕ → Post Rest → List Event
+followers k a p = flat_map (of_follower k p) (places_to a (sub_places p.subs))
 
 -- ---- a batch is formed: its sub-batches go to its actors
 
@@ -72,11 +88,6 @@ on_control t cells b p = comes_to t cells (is_not_doomed t b.acts) (option_map m
 
 -- ---- a sub-batch arrives: controls that wait for it on their way to the actor
 
--- the actor is this one
-abbrev pub is_at : ℕ → Option ℕ → Bool
-is_at a None = false
-is_at a (Some b) = b == a
-
 abbrev pub goes_to : ℕ → ℕ → Post Rest → Bool
 goes_to t a p = is_at a (option_map message_to (control_of t p.controls))
 
@@ -90,7 +101,7 @@ takes_by k a (Some None) p = comings_to a p
 takes_by k a (Some (Some c)) p = flat_map (takes_at a p) (undone_by k c.entries)
 
 abbrev pub arrived_listed : ℕ → ℕ → List (Option (Cell Rest)) → Post Rest → List Event
-arrived_listed k a cells p = arrivals_to a p ++ takes_by k a (slice_get cells a) p
+arrived_listed k a cells p = followers k a p ++ takes_by k a (slice_get cells a) p
 
 -- ---- the controls of ACTs that are given up
 
@@ -128,4 +139,4 @@ of_drops_with (Ask t a) tids = flat_map of_drop tids
 of_drops_with _ tids = []
 
 abbrev pub post_listed : Event → List (Option (Cell Rest)) → Book → Desk → Post Rest → List Event
-post_listed e cells b d p = of_post e cells d p ++ (of_sent e cells b p ++ of_drops e b)
+post_listed e cells b d p = of_post e cells d p ++ (of_sent e cells b p ++ of_drops_with e (given_up_by e cells b))

@@ -7,4 +7,5 @@ pub mod InAnswers
 pub mod InRing
 pub mod InPost
 pub mod InCells
+pub mod ByEvent
 pub use Rattle.ready_listing.specs as ready_listing

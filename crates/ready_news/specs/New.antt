@@ -1,8 +1,6 @@
 -- What an event may have made allowed.
-use Rattle.std.specs.Prelude.{◌≡◌, ◌==◌, Bool, true, false, not, ◌&&◌, List, map, Contains}
+use Rattle.std.specs.Prelude.{◌≡◌, ◌==◌, Bool, true, false, not, ◌&&◌, List, Contains}
 use Rattle.aml_slice.specs.Controls.{Rest}
-use Rattle.core_events.specs.Meant.{event_meant}
-use Rattle.core_events.specs.declared.events.Event as code
 use Rattle.snap_hand.specs.core_rows.OnRuns.{HasRun}
 use Rattle.protocol.specs.Conditions.{IsAllowed, refusal}
 use Rattle.protocol.specs.Effects.{after}
@@ -21,10 +19,6 @@ pub record IsBehind (w : Fixed Rest) (e : Event) (s : Machine Rest) (h : Parts) 
   pub run : HasRun w s
   pub allowed : IsAllowed w e s
   pub fits : Fits h (after w e s)
-
--- all that was there still is
-abbrev pub Keeps : List code.Event → List code.Event → Type 0
-Keeps old new = (f : Event) → Contains (map event_meant old) f → Contains (map event_meant new) f
 
 -- ---- ahead of a sync
 

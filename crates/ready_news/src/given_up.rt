@@ -1,61 +1,96 @@
 //! Who is given up.
-ghost use Rattle.std.specs.Prelude.{◌≡◌, ◌∷◌, ◌++◌, [], if◌then◌else◌, filter, map, IfOk, OnOk};
+ghost use Rattle.std.specs.Prelude.{◌≡◌, map, slice_get, OnOk};
+ghost use Rattle.std.specs.List.{flat_map};
 ghost use Rattle.book_part.specs.Halves.{Shows};
-ghost use Rattle.core_events.specs.Meant.{event_meant};
 ghost use Rattle.protocol.specs.Meant.{tid_number};
-ghost use Rattle.protocol.specs.Conditions.{is_given_up};
-ghost use Rattle.protocol.specs.Parts.{Book, OfAct};
-ghost use Rattle.ready_news.specs.GivenUp.{given_up_by, given_up_tids};
+ghost use Rattle.protocol.specs.Parts.{Book};
+ghost use Rattle.ready_listing.specs.Listed.{Adds};
+ghost use Rattle.snap_hand.specs.Hands.{IsWhole};
+ghost use Rattle.ready_news.specs.GivenUp.{may_have_acts};
+ghost use Rattle.ready_news.specs.ByEvent.{of_all_gone, of_all_gone_if, of_gone};
 
+use crate::in_answers::list_tx;
+use crate::in_book::list_leaving;
 use book_part::BookPart;
 use core_events::Event;
-use snap_base::{Memory, Tid, Who};
+use ready_listing::push_one;
+use snap_base::{ActorId, Memory, Tid};
+use snap_hand::Hand;
 use std::alloc::Global;
 
-fn push_tid(wanted: bool, t: Tid, tids: &mut Vec<Tid>) -> Result<(), Memory>
-    ensures { OnOk result (map tid_number tids.new.items ≡ map tid_number tids.old.items ++ (if wanted then t.0 ∷ [] else [])) }
+/// What is listed of an ACT that is given up: its control may be dropped, it may leave its actors, and its reply is due.
+fn list_gone(alloc: Global, book: &BookPart, t: Tid, events: &mut Vec<Event>) -> Result<(), Memory>
+    ensures { OnOk result ((b : Book) → Shows book.now b → Adds events.old.items events.new.items (of_gone b t.0)) }
 {
-    if wanted {
-        tids.push(t)?;
-    }
+    push_one(events, Event::DropControl(t))?;
+    list_leaving(alloc, book, t, events)?;
+    list_tx(book, t, events)?;
     Ok(())
 }
 
-fn push_given_up(book: &BookPart, t: Tid, found: &mut Vec<Tid>) -> Result<(), Memory>
-    ensures { OnOk result ((b : Book) → Shows book.now b → map tid_number found.new.items ≡ map tid_number found.old.items ++ filter (λ u. is_given_up (OfAct u) b) (t.0 ∷ [])) }
-{
-    let given_up = book.is_given_up(Who::Act(t));
-    push_tid(given_up, t, found)?;
-    Ok(())
-}
-
-fn keep_given_up(book: &BookPart, tids: &[Tid], found: &mut Vec<Tid>) -> Result<(), Memory>
-    ensures { OnOk result ((b : Book) → Shows book.now b → map tid_number found.new.items ≡ map tid_number found.old.items ++ filter (λ u. is_given_up (OfAct u) b) (map tid_number tids.now)) }
+fn list_each_gone(
+    alloc: Global,
+    book: &BookPart,
+    tids: &[Tid],
+    events: &mut Vec<Event>,
+) -> Result<(), Memory>
+    ensures { OnOk result ((b : Book) → Shows book.now b → Adds events.old.items events.new.items (flat_map (of_gone b) (map tid_number tids.now))) }
 {
     for t in tids {
-        push_given_up(book, *t, found)?;
+        list_gone(alloc, book, *t, events)?;
     }
     Ok(())
 }
 
-/// The live ACTs that are given up.
-fn given_up_acts(alloc: Global, book: &BookPart) -> Result<Vec<Tid>, Memory>
-    ensures { IfOk result (λ tids. (b : Book) → Shows book.now b → map tid_number tids.items ≡ given_up_tids b) }
+/// What is listed of the live ACTs that are given up.
+pub(crate) fn list_all_gone(
+    alloc: Global,
+    book: &BookPart,
+    events: &mut Vec<Event>,
+) -> Result<(), Memory>
+    ensures { OnOk result ((b : Book) → Shows book.now b → Adds events.old.items events.new.items (of_all_gone b)) }
 {
-    let tids = book.going(alloc)?;
-    let mut found = Vec::new(alloc);
-    keep_given_up(book, &tids, &mut found)?;
-    Ok(found)
+    let tids = book.given_up(alloc)?;
+    list_each_gone(alloc, book, &tids, events)?;
+    Ok(())
 }
 
-/// The live ACTs that are given up, where the event is one that may give ACTs up; else none.
-pub(crate) fn given_up_by(alloc: Global, book: &BookPart, e: Event) -> Result<Vec<Tid>, Memory>
-    ensures { IfOk result (λ tids. (b : Book) → Shows book.now b → map tid_number tids.items ≡ given_up_by (event_meant e) b) }
+fn list_gone_if_any(
+    any: bool,
+    alloc: Global,
+    book: &BookPart,
+    events: &mut Vec<Event>,
+) -> Result<(), Memory>
+    ensures { OnOk result ((b : Book) → Shows book.now b → Adds events.old.items events.new.items (of_all_gone_if any b)) }
 {
-    match e {
-        Event::Arrive(_, _) => given_up_acts(alloc, book),
-        Event::Ask(_, _) => given_up_acts(alloc, book),
-        Event::AbortBatch(_) => given_up_acts(alloc, book),
-        _ => Ok(Vec::new(alloc)),
+    if !any {
+        return Ok(());
     }
+    list_all_gone(alloc, book, events)
+}
+
+/// Whether an ACT stands on an actor; also where there is no such actor.
+fn may_have_acts(hand: &Hand, a: ActorId) -> bool
+    requires { IsWhole hand.now }
+    ensures { result ≡ may_have_acts (slice_get hand.now.cells a.0) }
+{
+    if !hand.has_actor(a) {
+        return true;
+    }
+    hand.cell(a).has_acts()
+}
+
+/// What is listed of the live ACTs that are given up, where one stands on the actor at which a batch has arrived; else nothing.
+pub(crate) fn list_gone_at(
+    alloc: Global,
+    hand: &Hand,
+    book: &BookPart,
+    a: ActorId,
+    events: &mut Vec<Event>,
+) -> Result<(), Memory>
+    requires { IsWhole hand.now }
+    ensures { OnOk result ((b : Book) → Shows book.now b → Adds events.old.items events.new.items (of_all_gone_if (may_have_acts (slice_get hand.now.cells a.0)) b)) }
+{
+    let any = may_have_acts(hand, a);
+    list_gone_if_any(any, alloc, book, events)
 }

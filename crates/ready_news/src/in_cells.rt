@@ -1,68 +1,42 @@
 //! What lies at actors.
-ghost use Rattle.std.specs.Prelude.{◌≡◌, is_some, Some, ℕ, map, slice_get, OnOk};
+ghost use Rattle.std.specs.Prelude.{◌≡◌, is_some, map, slice_get, OnOk};
 ghost use Rattle.std.specs.List.{flat_map};
 ghost use Rattle.std.specs.Option.{option_map};
-ghost use Rattle.aml_slice.specs.Controls.{Rest};
-ghost use Rattle.listing_facts.specs.batch_table.Listed.{actors_in};
 ghost use Rattle.listing_facts.specs.hybrid_schedule.Listed.{completable_on, undone_by};
 ghost use Rattle.core_events.specs.Meant.{event_meant};
-ghost use Rattle.ready_listing.specs.Listed.{Adds, of_waiting, on_place};
-ghost use Rattle.protocol.specs.Meant.{actor_number, tid_number, who_meant};
-ghost use Rattle.protocol.specs.Conditions.{epoch, has_ended_on, has_gone_on};
-ghost use Rattle.protocol.specs.Effects.{after};
+ghost use Rattle.ready_listing.specs.Listed.{Adds, on_place};
+ghost use Rattle.protocol.specs.Fixed.{declared, tx_at};
+ghost use Rattle.protocol.specs.Meant.{tid_number};
+ghost use Rattle.protocol.specs.Conditions.{has_ended_on, has_gone_on};
 ghost use Rattle.protocol.specs.Events.{End, Send};
-ghost use Rattle.protocol.specs.Parts.{Cell, Machine};
-ghost use Rattle.protocol.specs.Words.{batch_of, pact_result};
-ghost use Rattle.protocol_ready.specs.Telling.{CellTells};
-ghost use Rattle.snap_hand.specs.Hands.{IsHandOf, IsWhole};
-ghost use Rattle.snap_hand.specs.Tables.{AreTables, fixed_of};
+ghost use Rattle.protocol.specs.Words.{pact_result};
+ghost use Rattle.snap_hand.specs.Hands.{IsWhole};
+ghost use Rattle.snap_hand.specs.Tables.{text_of};
 ghost use Rattle.ready_news.specs.InBook.{only};
-ghost use Rattle.ready_news.specs.InCells.{changed_actor, cells_listed, close_at, closes, closes_of, closes_behind, late_by, left_by, of_actor, of_completable, of_late, of_shown, on_changed, owes, put_there, wakes, who_in};
-ghost use Rattle.ready_news.specs.New.{IsBehind, Keeps, is_new};
+ghost use Rattle.ready_news.specs.InCells.{close_at, closes_behind, declared_in, late_by, left_by, of_completable, of_late, of_shown, on_changed, owes, put_there, wakes};
 
 use crate::in_book::push_if;
 use aml_slice::Control;
 use core_events::Event;
-use listing_facts::{Desk, parts_list_all};
-use protocol_laws::{allowed_or_refused, numbers_are_drawn_once, numbers_are_in_range};
-use protocol_theorems::sizes_hold;
-use ready_listing::{actor_count, list_place, push_one};
-use snap_base::{ActorId, Bid, Memory, Tid, Who};
-use snap_hand::{CellPart, Hand, Tables, runs_go_on};
+use listing_facts::Desk;
+use ready_listing::{list_place, list_waiting, push_one};
+use snap_base::{ActorId, Bid, Memory, Tid, TxNo};
+use snap_hand::{CellPart, Hand, Tables};
 use std::alloc::Global;
 
-/// The actor whose cell the event changes so that what is there may go on.
-fn actor_of(e: Event) -> Option<ActorId>
-    ensures { option_map actor_number result ≡ changed_actor (event_meant e) }
-{
-    match e {
-        Event::Arrive(_, a) => Some(a),
-        Event::Run(_, a) => Some(a),
-        Event::Close(_, a) => Some(a),
-        Event::Complete(_, a) => Some(a),
-        Event::Finish(_, a) => Some(a),
-        Event::Trim(_, a) => Some(a),
-        _ => None,
-    }
-}
-
 /// What lies at an actor, where there is one.
-fn list_here(alloc: Global, hand: &Hand, a: ActorId, events: &mut Vec<Event>) -> Result<(), Memory>
+pub(crate) fn list_here(
+    alloc: Global,
+    hand: &Hand,
+    a: ActorId,
+    events: &mut Vec<Event>,
+) -> Result<(), Memory>
     ensures { OnOk result (Adds events.old.items events.new.items (on_place hand.now a.0)) }
 {
     if !hand.has_actor(a) {
         return Ok(());
     }
     list_place(alloc, hand, a, events)
-}
-
-fn push_runs(a: ActorId, tids: &[Tid], events: &mut Vec<Event>) -> Result<(), Memory>
-    ensures { OnOk result (Adds events.old.items events.new.items (flat_map (of_waiting a.0) (map tid_number tids.now))) }
-{
-    for t in tids {
-        push_one(events, Event::Run(*t, a))?;
-    }
-    Ok(())
 }
 
 fn push_complete(
@@ -100,7 +74,7 @@ fn list_wakes(
     ensures { OnOk result (Adds events.old.items events.new.items (wakes a.0 cell.now.cell)) }
 {
     let runnable = cell.runnable(alloc)?;
-    push_runs(a, &runnable, events)?;
+    list_waiting(a, &runnable, events)?;
     list_complete(cell, a, events)?;
     Ok(())
 }
@@ -229,7 +203,7 @@ fn list_changed(
 }
 
 /// What the event put at an actor and what may go on there, where there is such an actor.
-fn list_at(
+pub(crate) fn list_at(
     alloc: Global,
     hand: &Hand,
     e: Event,
@@ -243,40 +217,6 @@ fn list_at(
         return Ok(());
     }
     list_changed(alloc, hand, hand.cell(a), e, a, events)
-}
-
-fn list_own(alloc: Global, hand: &Hand, e: Event, events: &mut Vec<Event>) -> Result<(), Memory>
-    requires { IsWhole hand.now }
-    ensures { OnOk result (Adds events.old.items events.new.items (of_actor (event_meant e) hand.now (changed_actor (event_meant e)))) }
-{
-    match actor_of(e) {
-        Some(a) => list_at(alloc, hand, e, a, events),
-        None => Ok(()),
-    }
-}
-
-/// Where a PACT that ended may owe nothing any more.
-fn list_closes(tables: &Tables, hand: &Hand, t: Tid, events: &mut Vec<Event>) -> Result<(), Memory>
-    requires tables { AreTables tables.now }
-    requires places { IsHandOf (fixed_of tables.now) hand.now }
-    ensures { OnOk result (Adds events.old.items events.new.items (closes t.0 hand.now)) }
-{
-    let count = actor_count(tables, hand);
-    for a in 0..count {
-        push_one(events, Event::Close(t, ActorId(a)))?;
-    }
-    Ok(())
-}
-
-/// Whose a transaction is, as the cell of an actor tells; its own, where there is no such actor.
-fn who_at(hand: &Hand, t: Tid, a: ActorId) -> Who
-    requires { IsWhole hand.now }
-    ensures { who_meant result ≡ who_in t.0 (slice_get hand.now.cells a.0) }
-{
-    if !hand.has_actor(a) {
-        return Who::Act(t);
-    }
-    hand.cell(a).who_on(t)
 }
 
 /// Whether a PACT owes an actor something still; not where there is no such actor.
@@ -299,54 +239,45 @@ fn list_close(hand: &Hand, t: Tid, a: ActorId, events: &mut Vec<Event>) -> Resul
     Ok(())
 }
 
+/// The actors that a transaction declares, each with its number of calls; none where the text has no such transaction.
+fn uses_of(tables: &Tables, n: TxNo) -> &[(ActorId, u8)]
+    ensures { map (λ u. u.0.0) result.now ≡ declared (tx_at (text_of tables.now) n.0) }
+{
+    match tables.work.txs.get(n.0 as usize) {
+        Some(tx) => tx.uses.as_slice(),
+        None => &[],
+    }
+}
+
 fn push_closes(
     hand: &Hand,
     t: Tid,
-    actors: &[ActorId],
+    uses: &[(ActorId, u8)],
     events: &mut Vec<Event>,
 ) -> Result<(), Memory>
     requires { IsWhole hand.now }
-    ensures { OnOk result (Adds events.old.items events.new.items (flat_map (close_at t.0 hand.now) (map actor_number actors.now))) }
+    ensures { OnOk result (Adds events.old.items events.new.items (flat_map (close_at t.0 hand.now) (map (λ u. u.0.0) uses.now))) }
 {
-    for a in actors {
-        list_close(hand, t, *a, events)?;
+    for one in uses {
+        list_close(hand, t, one.0, events)?;
     }
     Ok(())
 }
 
-fn list_batch_closes(
-    alloc: Global,
+/// What a PACT owes still on the actors that it has declared, where it has this transaction.
+fn list_closes_of(
+    tables: &Tables,
     hand: &Hand,
-    desk: &Desk,
     t: Tid,
-    k: Bid,
+    tx: Option<TxNo>,
     events: &mut Vec<Event>,
 ) -> Result<(), Memory>
     requires { IsWhole hand.now }
-    ensures { OnOk result (Adds events.old.items events.new.items (flat_map (close_at t.0 hand.now) (actors_in (batch_of k.0 desk.now.batches)))) }
+    ensures { OnOk result (Adds events.old.items events.new.items (flat_map (close_at t.0 hand.now) (declared_in (text_of tables.now) (option_map (λ n. n.0) tx)))) }
 {
-    let actors = desk.actors_of(alloc, k)?;
-    push_closes(hand, t, &actors, events)?;
-    Ok(())
-}
-
-fn list_closes_of(
-    alloc: Global,
-    tables: &Tables,
-    hand: &Hand,
-    desk: &Desk,
-    t: Tid,
-    who: Who,
-    events: &mut Vec<Event>,
-) -> Result<(), Memory>
-    requires tables { AreTables tables.now }
-    requires places { IsHandOf (fixed_of tables.now) hand.now }
-    requires whole { IsWhole hand.now }
-    ensures { OnOk result (Adds events.old.items events.new.items (closes_of t.0 (who_meant who) desk.now hand.now)) }
-{
-    match who {
-        Who::Batch(k) => list_batch_closes(alloc, hand, desk, t, k, events),
-        Who::Act(_) => list_closes(tables, hand, t, events),
+    match tx {
+        Some(n) => push_closes(hand, t, uses_of(tables, n), events),
+        None => Ok(()),
     }
 }
 
@@ -356,86 +287,20 @@ fn has_ended(desk: &Desk, t: Tid) -> bool
     desk.result(t).is_some()
 }
 
-/// Where a PACT that ended may owe nothing any more, if the desk has its result.
-fn list_ended(
-    alloc: Global,
+/// Where a PACT that ended may owe nothing any more, if the desk has its result: of the actors that it has declared those that it
+/// owes something.
+pub(crate) fn list_end(
     tables: &Tables,
     hand: &Hand,
     t: Tid,
-    who: Who,
     events: &mut Vec<Event>,
 ) -> Result<(), Memory>
-    requires tables { AreTables tables.now }
-    requires places { IsHandOf (fixed_of tables.now) hand.now }
-    requires whole { IsWhole hand.now }
-    ensures { OnOk result (Adds events.old.items events.new.items (closes_behind t.0 (who_meant who) hand.now.desk hand.now)) }
+    requires { IsWhole hand.now }
+    ensures { OnOk result (Adds events.old.items events.new.items (closes_behind (text_of tables.now) t.0 hand.now.desk hand.now)) }
 {
     let desk = hand.desk();
     if !has_ended(desk, t) {
         return Ok(());
     }
-    list_closes_of(alloc, tables, hand, desk, t, who, events)
-}
-
-fn list_end(
-    alloc: Global,
-    tables: &Tables,
-    hand: &Hand,
-    t: Tid,
-    a: ActorId,
-    events: &mut Vec<Event>,
-) -> Result<(), Memory>
-    requires tables { AreTables tables.now }
-    requires places { IsHandOf (fixed_of tables.now) hand.now }
-    requires whole { IsWhole hand.now }
-    ensures { OnOk result (Adds events.old.items events.new.items (closes_behind t.0 (who_in t.0 (slice_get hand.now.cells a.0)) hand.now.desk hand.now)) }
-{
-    let who = who_at(hand, t, a);
-    list_ended(alloc, tables, hand, t, who, events)
-}
-
-fn list_by_event(
-    alloc: Global,
-    tables: &Tables,
-    hand: &Hand,
-    e: Event,
-    events: &mut Vec<Event>,
-) -> Result<(), Memory>
-    requires tables { AreTables tables.now }
-    requires places { IsHandOf (fixed_of tables.now) hand.now }
-    requires whole { IsWhole hand.now }
-    ensures { OnOk result (Adds events.old.items events.new.items (cells_listed (event_meant e) hand.now)) }
-{
-    match e {
-        Event::AbortBatch(_) => ready_listing::list_cells(alloc, tables, hand, events),
-        Event::Rollback(a) => list_here(alloc, hand, a, events),
-        Event::Ask(t, a) => push_one(events, Event::Run(t, a)),
-        Event::Take(t, a) => push_one(events, Event::Run(t, a)),
-        Event::End(t, a) => list_end(alloc, tables, hand, t, a, events),
-        _ => list_own(alloc, hand, e, events),
-    }
-}
-
-/// What may have become allowed of what lies at actors.
-pub(crate) fn list_cells(
-    alloc: Global,
-    tables: &Tables,
-    hand: &Hand,
-    e: Event,
-    events: &mut Vec<Event>,
-) -> Result<(), Memory>
-    requires tables { AreTables tables.now }
-    requires places { IsHandOf (fixed_of tables.now) hand.now }
-    requires whole { IsWhole hand.now }
-    ensures kept { OnOk result (Keeps events.old.items events.new.items) }
-    ensures told { OnOk result ((s : Machine Rest) → IsBehind (fixed_of tables.now) (event_meant e) s hand.now → (a : ℕ) (c : Cell Rest) → slice_get (after (fixed_of tables.now) (event_meant e) s).cells a ≡ Some c → CellTells (is_new (fixed_of tables.now) (event_meant e) s) (epoch (after (fixed_of tables.now) (event_meant e) s).book) a c (map event_meant events.new.items)) }
-{
-    allowed_or_refused::<Control>();
-    runs_go_on::<Control>();
-    numbers_are_drawn_once::<Control>();
-    numbers_are_in_range::<Control>();
-    sizes_hold::<Control>();
-    parts_list_all::<Control>();
-    list_by_event(alloc, tables, hand, e, events)?;
-    Ok(())
+    list_closes_of(tables, hand, t, desk.tx_of(t), events)
 }

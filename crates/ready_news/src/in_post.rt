@@ -2,35 +2,27 @@
 ghost use Rattle.std.specs.Prelude.{◌≡◌, ◌&&◌, Some, map, slice_get, OnOk};
 ghost use Rattle.std.specs.List.{flat_map};
 ghost use Rattle.std.specs.Option.{option_map};
-ghost use Rattle.aml_slice.specs.Controls.{Rest};
 ghost use Rattle.book_part.specs.Halves.{Shows};
-ghost use Rattle.core_events.specs.Meant.{event_meant};
 ghost use Rattle.ready_listing.specs.Listed.{Adds};
 ghost use Rattle.protocol.specs.Meant.{actor_number, tid_number};
 ghost use Rattle.listing_facts.specs.hybrid_schedule.Listed.{undone_by};
 ghost use Rattle.listing_facts.specs.post_box.Listed.{control_listed, sub_listed};
 ghost use Rattle.listing_facts.specs.post_box.Posting.{message_to};
-ghost use Rattle.protocol.specs.Effects.{after};
 ghost use Rattle.protocol.specs.Events.{Ask, DropControl, Take};
-ghost use Rattle.protocol.specs.Parts.{Book, Machine};
+ghost use Rattle.protocol.specs.Parts.{Book};
 ghost use Rattle.protocol.specs.Words.{control_of};
-ghost use Rattle.protocol_ready.specs.Telling.{PostTells};
-ghost use Rattle.snap_hand.specs.Hands.{IsHandOf, IsWhole};
-ghost use Rattle.snap_hand.specs.Tables.{AreTables, fixed_of};
-ghost use Rattle.ready_news.specs.GivenUp.{AreGivenUpBy};
+ghost use Rattle.snap_hand.specs.Hands.{IsWhole};
 ghost use Rattle.ready_news.specs.InBook.{only};
-ghost use Rattle.ready_news.specs.InPost.{all_to, arrivals_to, arrived_listed, arrives_at, comes_to, comings_to, formed_listed, goes_to, is_dropped, is_new_in, is_placed_in, of_arrival, of_coming, of_drop, of_drops_with, of_post, of_sent, on_control, takes_at, takes_by};
-ghost use Rattle.ready_news.specs.New.{IsBehind, Keeps, is_new};
+ghost use Rattle.ready_news.specs.InPost.{all_to, arrivals_to, arrived_listed, arrives_at, comes_behind, comes_to, comings_to, followers, formed_listed, goes_to, is_dropped, is_new_in, is_placed_in, of_arrival, of_coming, of_follower, on_control, takes_at, takes_by};
 
 use crate::in_book::push_if;
 use aml_slice::Control;
 use book_part::BookPart;
 use core_events::Event;
 use listing_facts::{Desk, Post};
-use protocol_laws::allowed_or_refused;
-use ready_listing::{list_messages, push_one, push_two};
+use ready_listing::{push_one, push_two};
 use snap_base::{ActorId, Bid, Memory, Tid};
-use snap_hand::{CellPart, Hand, Tables, runs_go_on};
+use snap_hand::{CellPart, Hand};
 use std::alloc::Global;
 
 fn push_arrivals(subs: &[(Bid, ActorId)], events: &mut Vec<Event>) -> Result<(), Memory>
@@ -65,6 +57,59 @@ fn list_arrivals(
     Ok(())
 }
 
+/// Whether a sub-batch on its way to an actor comes behind batch `k` there.
+fn comes_behind(post: &Post<Control>, k: Bid, j: Bid, a: ActorId) -> bool
+    ensures { result ≡ comes_behind k.0 post.now.messages (j.0, a.0) }
+{
+    match post.sub_head(j, a) {
+        Some(head) => head.prev.0 == k.0,
+        None => false,
+    }
+}
+
+fn list_follower(
+    post: &Post<Control>,
+    k: Bid,
+    j: Bid,
+    a: ActorId,
+    events: &mut Vec<Event>,
+) -> Result<(), Memory>
+    ensures { OnOk result (Adds events.old.items events.new.items (of_follower k.0 post.now.messages (j.0, a.0))) }
+{
+    let due = comes_behind(post, k, j, a);
+    push_if(due, Event::Arrive(j, a), events)?;
+    Ok(())
+}
+
+fn push_followers(
+    post: &Post<Control>,
+    k: Bid,
+    subs: &[(Bid, ActorId)],
+    events: &mut Vec<Event>,
+) -> Result<(), Memory>
+    ensures { OnOk result (Adds events.old.items events.new.items (flat_map (of_follower k.0 post.now.messages) (map sub_listed subs.now))) }
+{
+    for p in subs {
+        list_follower(post, k, p.0, p.1, events)?;
+    }
+    Ok(())
+}
+
+/// The sub-batch on its way to the actor that comes behind batch `k` there.
+fn list_followers(
+    alloc: Global,
+    post: &Post<Control>,
+    k: Bid,
+    a: ActorId,
+    events: &mut Vec<Event>,
+) -> Result<(), Memory>
+    ensures { OnOk result (Adds events.old.items events.new.items (followers k.0 a.0 post.now.messages)) }
+{
+    let subs = post.subs_to(alloc, a)?;
+    push_followers(post, k, &subs, events)?;
+    Ok(())
+}
+
 /// The controls on their way to the actor.
 fn list_comings(
     alloc: Global,
@@ -80,7 +125,7 @@ fn list_comings(
 }
 
 /// All that is on its way to the actor.
-fn list_to(
+pub(crate) fn list_to(
     alloc: Global,
     post: &Post<Control>,
     a: ActorId,
@@ -104,7 +149,12 @@ fn push_formed(k: Bid, actors: &[ActorId], events: &mut Vec<Event>) -> Result<()
 }
 
 /// The sub-batches of a batch that was just formed.
-fn list_formed(alloc: Global, desk: &Desk, k: Bid, events: &mut Vec<Event>) -> Result<(), Memory>
+pub(crate) fn list_formed(
+    alloc: Global,
+    desk: &Desk,
+    k: Bid,
+    events: &mut Vec<Event>,
+) -> Result<(), Memory>
     ensures { OnOk result (Adds events.old.items events.new.items (formed_listed k.0 desk.now)) }
 {
     let actors = desk.actors_of(alloc, k)?;
@@ -184,7 +234,7 @@ fn list_let_in(
 }
 
 /// What waits on its way to the actor for a batch that has arrived there.
-fn list_arrived(
+pub(crate) fn list_arrived(
     alloc: Global,
     hand: &Hand,
     post: &Post<Control>,
@@ -195,13 +245,13 @@ fn list_arrived(
     requires { IsWhole hand.now }
     ensures { OnOk result (Adds events.old.items events.new.items (arrived_listed k.0 a.0 hand.now.cells post.now.messages)) }
 {
-    list_arrivals(alloc, post, a, events)?;
+    list_followers(alloc, post, k, a, events)?;
     list_let_in(alloc, hand, post, k, a, events)?;
     Ok(())
 }
 
 /// The ACT that has left an actor may ask there again.
-fn list_again(
+pub(crate) fn list_again(
     post: &Post<Control>,
     t: Tid,
     a: ActorId,
@@ -212,27 +262,6 @@ fn list_again(
     let goes = goes_to(post, t, a);
     push_if(goes, Event::Ask(t, a), events)?;
     Ok(())
-}
-
-fn list_of_post(
-    alloc: Global,
-    hand: &Hand,
-    post: &Post<Control>,
-    desk: &Desk,
-    e: Event,
-    events: &mut Vec<Event>,
-) -> Result<(), Memory>
-    requires { IsWhole hand.now }
-    ensures { OnOk result (Adds events.old.items events.new.items (of_post (event_meant e) hand.now.cells desk.now post.now.messages)) }
-{
-    match e {
-        Event::Form(k) => list_formed(alloc, desk, k, events),
-        Event::Arrive(k, a) => list_arrived(alloc, hand, post, k, a, events),
-        Event::AbortBatch(_) => list_messages(alloc, post, events),
-        Event::Rollback(a) => list_to(alloc, post, a, events),
-        Event::Finish(t, a) => list_again(post, t, a, events),
-        _ => Ok(()),
-    }
 }
 
 /// Whether a transaction has no entry at an actor as an ACT; also where there is no such actor.
@@ -337,8 +366,7 @@ fn list_drop(
     t: Tid,
     events: &mut Vec<Event>,
 ) -> Result<(), Memory>
-    ensures kept { OnOk result (Keeps events.old.items events.new.items) }
-    ensures told { OnOk result ((b : Book) → Shows book.now b → Adds events.old.items events.new.items (only (is_dropped t.0 b post.now.messages) (DropControl t.0))) }
+    ensures { OnOk result ((b : Book) → Shows book.now b → Adds events.old.items events.new.items (only (is_dropped t.0 b post.now.messages) (DropControl t.0))) }
 {
     let due = is_dropped(book, post, t);
     push_if(due, Event::DropControl(t), events)?;
@@ -346,7 +374,7 @@ fn list_drop(
 }
 
 /// The control of a transaction, and its drop where whose it is, is given up.
-fn list_on_control(
+pub(crate) fn list_on_control(
     hand: &Hand,
     book: &BookPart,
     post: &Post<Control>,
@@ -354,76 +382,10 @@ fn list_on_control(
     events: &mut Vec<Event>,
 ) -> Result<(), Memory>
     requires { IsWhole hand.now }
-    ensures kept { OnOk result (Keeps events.old.items events.new.items) }
-    ensures told { OnOk result ((b : Book) → Shows book.now b → Adds events.old.items events.new.items (on_control t.0 hand.now.cells b post.now.messages)) }
+    ensures { OnOk result ((b : Book) → Shows book.now b → Adds events.old.items events.new.items (on_control t.0 hand.now.cells b post.now.messages)) }
 {
     let asks = book.is_undoomed(t);
     list_control(hand, post, asks, t, events)?;
     list_drop(book, post, t, events)?;
-    Ok(())
-}
-
-/// The control that the event has posted.
-fn list_of_sent(
-    hand: &Hand,
-    book: &BookPart,
-    post: &Post<Control>,
-    e: Event,
-    events: &mut Vec<Event>,
-) -> Result<(), Memory>
-    requires { IsWhole hand.now }
-    ensures kept { OnOk result (Keeps events.old.items events.new.items) }
-    ensures told { OnOk result ((b : Book) → Shows book.now b → Adds events.old.items events.new.items (of_sent (event_meant e) hand.now.cells b post.now.messages)) }
-{
-    match e {
-        Event::Admit(t) => list_on_control(hand, book, post, t, events),
-        Event::Send(t, _) => list_on_control(hand, book, post, t, events),
-        _ => Ok(()),
-    }
-}
-
-/// The controls of ACTs.
-fn push_drops(tids: &[Tid], events: &mut Vec<Event>) -> Result<(), Memory>
-    ensures { OnOk result (Adds events.old.items events.new.items (flat_map of_drop (map tid_number tids.now))) }
-{
-    for t in tids {
-        push_one(events, Event::DropControl(*t))?;
-    }
-    Ok(())
-}
-
-/// The controls of those that are given up.
-fn list_of_drops(e: Event, fallen: &[Tid], events: &mut Vec<Event>) -> Result<(), Memory>
-    ensures { OnOk result (Adds events.old.items events.new.items (of_drops_with (event_meant e) (map tid_number fallen.now))) }
-{
-    match e {
-        Event::Arrive(_, _) => push_drops(fallen, events),
-        Event::Ask(_, _) => push_drops(fallen, events),
-        _ => Ok(()),
-    }
-}
-
-/// What may have become allowed of what is under way, where these ACTs are given up.
-pub(crate) fn list_post(
-    alloc: Global,
-    _tables: &Tables,
-    hand: &Hand,
-    e: Event,
-    fallen: &[Tid],
-    events: &mut Vec<Event>,
-) -> Result<(), Memory>
-    requires tables { AreTables _tables.now }
-    requires places { IsHandOf (fixed_of _tables.now) hand.now }
-    requires whole { IsWhole hand.now }
-    requires fallen { AreGivenUpBy (event_meant e) hand.now.book (map tid_number fallen.now) }
-    ensures kept { OnOk result (Keeps events.old.items events.new.items) }
-    ensures told { OnOk result ((s : Machine Rest) → IsBehind (fixed_of _tables.now) (event_meant e) s hand.now → PostTells (is_new (fixed_of _tables.now) (event_meant e) s) (after (fixed_of _tables.now) (event_meant e) s).post (map event_meant events.new.items)) }
-{
-    allowed_or_refused::<Control>();
-    runs_go_on::<Control>();
-    let post = hand.post();
-    list_of_post(alloc, hand, post, hand.desk(), e, events)?;
-    list_of_sent(hand, hand.book(), post, e, events)?;
-    list_of_drops(e, fallen, events)?;
     Ok(())
 }

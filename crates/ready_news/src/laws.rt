@@ -14,8 +14,8 @@ ghost use Rattle.protocol.specs.Parts.{Cell, Log, Machine};
 ghost use Rattle.protocol_ready.specs.Telling.{AnswersTell, BookTells, CellTells, DeskTells, LogTells, PostTells, RingTells};
 ghost use Rattle.snap_base.specs.declared.ids.Bid.{Bid};
 ghost use Rattle.snap_hand.specs.Hands.{IsHandOf, IsWhole, Parts};
-ghost use Rattle.ready_news.specs.InAnswers.{by_answers};
-ghost use Rattle.ready_news.specs.InBook.{by_book};
+ghost use Rattle.ready_news.specs.InAnswers.{answers_listed};
+ghost use Rattle.ready_news.specs.InBook.{book_listed};
 ghost use Rattle.ready_news.specs.InCells.{cells_listed};
 ghost use Rattle.ready_news.specs.InDesk.{by_desk};
 ghost use Rattle.ready_news.specs.InPost.{post_listed};
@@ -24,14 +24,14 @@ ghost use Rattle.ready_news.specs.New.{IsBehind, is_new, is_sync};
 
 use aml_slice::Control;
 use book_part::unbegun_acts_wait_for_nothing;
-use listing_facts::{parts_list_all, run_parts_list_all};
-use protocol_laws::{allowed_or_refused, frame, numbers_are_drawn_once, numbers_are_in_range};
+use listing_facts::{parts_list_all, run_parts_list_all, undone_have_declared};
+use protocol_laws::{allowed_or_refused, frame, numbers_are_in_range};
 use protocol_theorems::sizes_hold;
 use snap_hand::runs_go_on;
 
 /// A list in which the events listed by the ring stand tells all that is new of what the ring has next.
 pub fn ring_is_told()
-    ensures { (w : Fixed Rest) (e : Event) (s : Machine Rest) (es : List Event) → ((f : Event) → Contains (ring_listed w.text.coordinators e (after w e s).ring) f → Contains es f) → RingTells (is_new w e s) w.text (after w e s).ring es }
+    ensures { (w : Fixed Rest) (e : Event) (s : Machine Rest) (es : List Event) → ((f : Event) → Contains (ring_listed e w.text (after w e s).desk (after w e s).book (after w e s).ring) f → Contains es f) → RingTells (is_new w e s) w.text (after w e s).ring es }
 {
     frame::<Control>();
 }
@@ -51,11 +51,11 @@ pub fn post_is_told()
 
 /// A list in which the events listed by the cells stand, on a hand with all parts, tells all that is new of what lies at actors.
 pub fn cells_are_told()
-    ensures { (w : Fixed Rest) (e : Event) (s : Machine Rest) (h : Parts) (es : List Event) → IsHandOf w h → IsWhole h → IsBehind w e s h → ((f : Event) → Contains (cells_listed e h) f → Contains es f) → (a : ℕ) (c : Cell Rest) → slice_get (after w e s).cells a ≡ Some c → CellTells (is_new w e s) (epoch (after w e s).book) a c es }
+    ensures { (w : Fixed Rest) (e : Event) (s : Machine Rest) (h : Parts) (es : List Event) → IsHandOf w h → IsWhole h → IsBehind w e s h → ((f : Event) → Contains (cells_listed w.text e h) f → Contains es f) → (a : ℕ) (c : Cell Rest) → slice_get (after w e s).cells a ≡ Some c → CellTells (is_new w e s) (epoch (after w e s).book) a c es }
 {
     allowed_or_refused::<Control>();
     runs_go_on::<Control>();
-    numbers_are_drawn_once::<Control>();
+    undone_have_declared::<Control>();
     numbers_are_in_range::<Control>();
     sizes_hold::<Control>();
     parts_list_all::<Control>();
@@ -73,7 +73,7 @@ pub fn desk_is_told()
 /// A list in which the events listed by the book stand tells all that is new of what ACTs wait for, where some halves show the
 /// book, and the event is no sync.
 pub fn book_is_told()
-    ensures { (w : Fixed Rest) (e : Event) (s : Machine Rest) (h : Parts) (x : Halves) (es : List Event) → is_sync e ≡ false → IsBehind w e s h → Shows x (after w e s).book → ((f : Event) → Contains (by_book (after w e s).book e) f → Contains es f) → BookTells (is_new w e s) (after w e s).book es }
+    ensures { (w : Fixed Rest) (e : Event) (s : Machine Rest) (h : Parts) (x : Halves) (es : List Event) → is_sync e ≡ false → IsBehind w e s h → Shows x (after w e s).book → ((f : Event) → Contains (book_listed e h.cells (after w e s).book) f → Contains es f) → BookTells (is_new w e s) (after w e s).book es }
 {
     allowed_or_refused::<Control>();
     runs_go_on::<Control>();
@@ -83,7 +83,7 @@ pub fn book_is_told()
 
 /// A list in which the Replies listed by the answers stand tells all that is new of replies that are due.
 pub fn answers_are_told()
-    ensures { (w : Fixed Rest) (e : Event) (s : Machine Rest) (h : Parts) (es : List Event) → IsBehind w e s h → ((f : Event) → Contains (by_answers (after w e s).ring.next_bid (after w e s).book (after w e s).desk e) f → Contains es f) → AnswersTell (is_new w e s) (after w e s).book (after w e s).desk es }
+    ensures { (w : Fixed Rest) (e : Event) (s : Machine Rest) (h : Parts) (es : List Event) → IsBehind w e s h → ((f : Event) → Contains (answers_listed (after w e s).ring.next_bid e h.cells (after w e s).book (after w e s).desk) f → Contains es f) → AnswersTell (is_new w e s) (after w e s).book (after w e s).desk es }
 {
     runs_go_on::<Control>();
 }

@@ -9,13 +9,11 @@ ghost use Rattle.snap_hand.specs.Hands.{IsHandOf, IsWhole};
 ghost use Rattle.snap_hand.specs.Tables.{AreTables, fixed_of};
 ghost use Rattle.ready_news.specs.New.{IsBehind, IsForeseen, is_new, is_sync};
 
-use crate::given_up::given_up_by;
-use crate::in_answers::list_answers;
-use crate::in_book::list_book;
-use crate::in_cells::list_cells;
-use crate::in_desk::list_desk;
-use crate::in_post::list_post;
-use crate::in_ring::{list_logs, list_ring};
+use crate::following::{AtHand, list_by_event};
+use crate::laws::{
+    answers_are_told, book_is_told, cells_are_told, desk_is_told, logs_are_told, post_is_told,
+    ring_is_told,
+};
 use core_events::Event;
 use snap_base::Memory;
 use snap_hand::{Hand, Tables};
@@ -43,18 +41,29 @@ pub fn touched(
     requires whole { IsWhole hand.now }
     ensures { OnOk result ((s : Machine Rest) → IsBehind (fixed_of tables.now) (event_meant e) s hand.now → IsForeseen (fixed_of tables.now) (event_meant e) s (map event_meant events.old.items) → PartsTell (is_new (fixed_of tables.now) (event_meant e) s) (fixed_of tables.now) (after (fixed_of tables.now) (event_meant e) s) (map event_meant events.new.items)) }
 {
+    ring_is_told();
+    cells_are_told();
+    logs_are_told();
+    post_is_told();
+    desk_is_told();
+    book_is_told();
+    answers_are_told();
     if is_sync(e) {
         return Ok(());
     }
     // One list serves event after event, and keeps its room.
     events.clear();
-    list_ring(tables, hand, e, events)?;
-    let fallen = given_up_by(alloc, hand.book(), e)?;
-    list_post(alloc, tables, hand, e, &fallen, events)?;
-    list_cells(alloc, tables, hand, e, events)?;
-    list_logs(tables, hand, e, events)?;
-    list_desk(alloc, tables, hand, e, events)?;
-    list_book(alloc, hand, e, &fallen, events)?;
-    list_answers(alloc, tables, hand, e, &fallen, events)?;
+    let desk = hand.desk();
+    let at = AtHand {
+        alloc,
+        tables,
+        hand,
+        ring: hand.ring(),
+        book: hand.book(),
+        post: hand.post(),
+        desk,
+        next: desk.next(),
+    };
+    list_by_event(&at, e, events)?;
     Ok(())
 }

@@ -8,17 +8,13 @@ use Rattle.protocol.specs.Events.{DropControl}
 use Rattle.protocol.specs.Words.{control_of}
 use Rattle.ready_news.specs.InBook.{only}
 use Rattle.ready_news.specs.InPost.{comes_to, is_dropped}
-use Rattle.ready_news.proofs.Common.{keeps_added, keeps_both}
 use Rattle.ready_news.proofs.in_post.list_on_control.Goals as goal
 
-pub returns-clause-kept : goal.returns-clause-kept
-returns-clause-kept c = keeps_both c.args.events.now.items c.list_control.new.events.items c.list_drop.new.events.items (keeps_added c.args.events.now.items c.list_control.new.events.items _ c.in_ok-list_control.ensures) c.in_ok-list_drop.ensures.kept
-
-pub returns-clause-told : goal.returns-clause-told
-returns-clause-told c = λ b s.
+pub returns : goal.returns
+returns c = λ b s.
     let t = c.args.t.0 in
     let p = c.args.post.now.messages in
     let to = option_map message_to (control_of t p.controls) in
     adds_both c.args.events.now.items c.list_control.new.events.items c.list_drop.new.events.items (comes_to t c.args.hand.now.cells (is_not_doomed t b.acts) to) (only (is_dropped t b p) (DropControl t))
     (subst (λ v. Adds c.args.events.now.items c.list_control.new.events.items (comes_to t c.args.hand.now.cells v to)) (c.is_undoomed-asks.ensures b s) c.in_ok-list_control.ensures)
-    (c.in_ok-list_drop.ensures.told b s)
+    (c.in_ok-list_drop.ensures b s)
