@@ -1,8 +1,7 @@
--- What is put in, and nothing taken out but the event itself, leaves no allowed event out.
+-- What is put in, with none asked, and nothing taken out but the event itself, leaves no allowed event out.
 use Rattle.std.proofs.Common.{◌≡◌, ◌↔◌, ◌==◌, Bool, true, false, Contains, ◌⊎◌, List, refl, sym, subst, inl, inr, ◌∙◌}
 use Rattle.std.proofs.lemmas.Bool.{eqb-true, eq-eqb, true≢false}
 use Rattle.aml_slice.specs.Controls.{Rest}
-use Rattle.snap_hand.specs.core_rows.OnRuns.{HasRun}
 use Rattle.protocol.specs.Conditions.{AllTrue, IsAllowed, refusal}
 use Rattle.protocol.specs.Effects.{after}
 use Rattle.protocol.specs.Events.{Event}
@@ -14,29 +13,26 @@ use Rattle.protocol_ready.specs.Ready.{without}
 use Rattle.protocol_ready.specs.Refusing.{RefusesItself}
 use Rattle.protocol_ready.specs.Telling.{PartsTell}
 use Rattle.protocol_ready.specs.Touched.{IsSound, LeavesUntouched, is_touched}
-use Rattle.ready_renewal.specs.Asked.{IsWith}
+use Rattle.ready_renewal.specs.Asked.{IsWithAll}
 use Rattle.ready_renewal.specs.Covering.{Covers}
 use Rattle.ready_renewal.proofs.KeptEvents.{new_is}
 use Rattle.snap_hand.specs.Hands.{Parts}
 use Rattle.ready_news.specs.New.{IsBehind, IsForeseen, is_new}
 
 -- what is known of every run and of every list that the parts told
-abbrev GoOn : Type 0
-GoOn = (w : Fixed Rest) (e : Event) (s : Machine Rest) → HasRun w s → IsAllowed w e s → HasRun w (after w e s)
-
 abbrev Ruled : Type 0
 Ruled = (w : Fixed Rest) (e : Event) (s : Machine Rest) → (refusal w e s ≡ 0) ↔ IsAllowed w e s
 
 abbrev Tell : Type 0
 Tell = (asked : Event → Bool) (w : Fixed Rest) (s : Machine Rest) (es : List Event) → PartsTell asked w s es → (f : Event) → asked f ≡ true → IsAllowed w f s → Contains es f
 
--- what was there stays, if it is allowed, but for the event itself, which is not allowed right behind itself; and what was told of comes in, if it is
-module _ (w : Fixed Rest) (h : Parts) (e : Event) (ahead news old new : List Event) (on : GoOn) (ruled : Ruled) (tells : Tell) (leaves : (w : Fixed Rest) (s : Machine Rest) → LeavesUntouched w s)
+-- what was there stays, if it is allowed, but for the event itself, which is not allowed right behind itself; and what was told of comes in
+module _ (w : Fixed Rest) (h : Parts) (e : Event) (ahead news old new : List Event) (ruled : Ruled) (tells : Tell) (leaves : (w : Fixed Rest) (s : Machine Rest) → LeavesUntouched w s)
     (stay : AfterEveryRun (IsSound {C = Rest})) (told : (s : Machine Rest) → IsBehind w e s h → IsForeseen w e s ahead → PartsTell (is_new w e s) w (after w e s) news) where
   pub advanced : AfterEveryRun (RefusesItself {C = Rest})
       → ((e : Event) (es : List Event) (f : Event) → Contains es f → Contains (without e es) f ⊎ (f ≡ e))
       → ((e : Event) (es : List Event) → AscendByRank es → AscendByRank (without e es))
-      → IsWith w h news (without e old) new → (s : Machine Rest) → IsBehind w e s h → IsForeseen w e s ahead → Covers w s old → Covers w (after w e s) new
+      → IsWithAll news (without e old) new → (s : Machine Rest) → IsBehind w e s h → IsForeseen w e s ahead → Covers w s old → Covers w (after w e s) new
   advanced once kept order more s is foreseen before = record {
     all = λ f now. holds f now (refusal w f s == 0) refl (is_touched w e s f) refl;
     ascends = more.ascends (order e old before.ascends);
@@ -59,7 +55,4 @@ module _ (w : Fixed Rest) (h : Parts) (e : Event) (ahead news old new : List Eve
       holds f now false q false touched = was f now (subst AllTrue (leaves w s e f sound is.allowed touched) now)
       holds f now false q true touched =
           let first = new_is w e s f (ruled w f) touched (λ ok. true≢false (sym (eq-eqb (refusal w f s) 0 ((ruled w f s).1 ok)) ∙ q)) now in
-          elim (more.due f (tells (is_new w e s) w (after w e s) news (told s is foreseen) f first now)) [
-            | inl c ↦ c
-            | inr r ↦ absurd (r (after w e s) (on w e s is.run is.allowed) is.fits now)
-          ]
+          more.all f (tells (is_new w e s) w (after w e s) news (told s is foreseen) f first now)

@@ -1,7 +1,10 @@
 -- What is asked again, taken out and put in makes the allowed events after an event.
 use Rattle.std.proofs.Common.{◌≡◌, ℕ, zero, suc, ◌+◌, ◌<◌, ◌≤◌, get_or, slice_index_or, ◌==◌, Bool, true, false, Contains, ◌↔◌, ◌⊎◌, List, [], ◌∷◌, ◌++◌, length, map, take, refl, sym, ap, subst, inl, inr, ◌∙◌, arith}
-use Rattle.std.proofs.lemmas.Bool.{cases_lt, eqb-true, eq-eqb}
-use Rattle.std.proofs.lemmas.List.{map-append, map_more, take_all}
+use Rattle.std.specs.Prelude.{◌||◌, Option, Some, None}
+use Rattle.std.specs.List.{list_any}
+use Rattle.std.proofs.lemmas.Bool.{and_left, and_right, eqb-true, eq-eqb, or_cases, or_from, or_left, or_right, true≢false}
+use Rattle.std.proofs.lemmas.List.{map-append, map_more, take_all, take_more}
+use Rattle.std.proofs.lemmas.List.Folds.{list_any-append}
 use Rattle.std.proofs.lemmas.List.Elements.{Contains-append_cases, Contains-append_left, Contains-append_right}
 use Rattle.aml_slice.specs.Controls.{Rest}
 use Rattle.core_events.specs.Meant.{event_meant}
@@ -9,18 +12,19 @@ use Rattle.core_events.specs.declared.events.Event as code
 use Rattle.snap_hand.specs.core_rows.OnRuns.{HasRun}
 use Rattle.protocol.specs.Conditions.{IsAllowed, refusal}
 use Rattle.protocol.specs.Effects.{after}
-use Rattle.protocol.specs.Events.{Event, Submit}
+use Rattle.protocol.specs.Events.{Event}
 use Rattle.protocol.specs.Fixed.{Fixed}
-use Rattle.protocol.specs.Laws.{OfEveryRun}
+use Rattle.protocol.specs.Laws.{AfterEveryRun, OfEveryRun}
 use Rattle.protocol.specs.Parts.{Machine}
 use Rattle.protocol.specs.Schedule.{AscendByRank, IsEnabled}
 use Rattle.protocol_ready.specs.Ready.{put, without}
-use Rattle.protocol_ready.specs.Refusing.{IsRenewed, RenewedAreEnabled, may_refuse}
+use Rattle.protocol_ready.specs.Refusing.{IsRenewed, RefusesItself, RenewedAreEnabled, may_refuse}
 use Rattle.protocol_ready.proofs.Listing.{from_filter, from_has, has_filter, to_has}
 use Rattle.protocol_ready.specs.Telling.{PartsTell}
 use Rattle.protocol_ready.specs.Touched.{is_touched}
-use Rattle.ready_list.specs.Order.{kind_of}
-use Rattle.ready_renewal.specs.Asked.{AreAsked, AreRefused, IsAllowedOn, IsAsked, IsPutIn, IsOwn, IsRefusedOn, IsWith, IsWithout, of_kind}
+use Rattle.ready_list.specs.Order.{first_of, kind_of}
+use Rattle.ready_list.specs.Reaches.{is_among, is_reached}
+use Rattle.ready_renewal.specs.Asked.{AreAsked, AreRefused, IsAllowedOn, IsAsked, IsPutIn, IsRefusedOn, IsSettled, IsWith, IsWithAll, IsWithout, is_of, of_kind, of_kinds}
 use Rattle.snap_hand.specs.Hands.{Parts}
 use Rattle.ready_news.specs.New.{IsBehind, IsForeseen, is_new}
 
@@ -114,13 +118,29 @@ one_in w h xs i x old list new within is so_far looked = record {
 pub all_in : (w : Fixed Rest) (h : Parts) (xs : List code.Event) (i : ℕ) (old new : List Event) → length xs ≤ i → IsWith w h (map event_meant (take i xs)) old new → IsWith w h (map event_meant xs) old new
 all_in w h xs i old new past so_far = subst (λ v. IsWith w h (map event_meant v) old new) (take_all i xs past) so_far
 
+-- ---- what is put in with none asked
+
+pub with_nothing : (es : List Event) → IsWithAll [] es es
+with_nothing es = record { only = λ f c. inl c; kept = λ f c. c; all = λ f c. absurd (none_in f c); ascends = λ a. a }
+
+pub one_put : (xs : List code.Event) (i : ℕ) (x : code.Event) (old list new : List Event) → i < length xs → x ≡ get_or xs i x
+    → ((e : Event) (es : List Event) (f : Event) → Contains (put e es) f ↔ ((f ≡ e) ⊎ Contains es f))
+    → ((e : Event) (es : List Event) → AscendByRank es → AscendByRank (put e es))
+    → IsWithAll (map event_meant (take i xs)) old list → new ≡ put (event_meant x) list → IsWithAll (map event_meant (take (i + 1) xs)) old new
+one_put xs i x old list new within is one order so_far same = subst (IsWithAll (map event_meant (take (i + 1) xs)) old) (sym same) (record {
+  only = λ f c. elim ((one (event_meant x) list f).0 c) [
+    | inl q ↦ inr (subst (Contains (map event_meant (take (i + 1) xs))) (sym q) (more_last xs i x within is))
+    | inr a ↦ elim (so_far.only f a) [ inl b ↦ inl b | inr b ↦ inr (more_left xs i x f within b) ]
+  ];
+  kept = λ f c. (one (event_meant x) list f).1 (inr (so_far.kept f c));
+  all = λ f c. elim (more_cases xs i x f within is c) [ inl a ↦ (one (event_meant x) list f).1 (inr (so_far.all f a)) | inr q ↦ (one (event_meant x) list f).1 (inl q) ];
+  ascends = λ a. order (event_meant x) list (so_far.ascends a);
+})
+
+pub all_put : (xs : List code.Event) (i : ℕ) (old new : List Event) → length xs ≤ i → IsWithAll (map event_meant (take i xs)) old new → IsWithAll (map event_meant xs) old new
+all_put xs i old new past so_far = subst (λ v. IsWithAll (map event_meant v) old new) (take_all i xs past) so_far
+
 -- ---- what is refused
-
-pub own_gone : (w : Fixed Rest) (h : Parts) (e : code.Event) (none gone : List code.Event) → none ≡ [] → gone ≡ none ++ e ∷ [] → IsRefusedOn w h (event_meant e) → IsOwn w h (event_meant e) (map event_meant gone)
-own_gone w h e none gone n g refused = subst (λ v. IsOwn w h (event_meant e) (map event_meant v)) (sym (g ∙ ap (λ v. v ++ e ∷ []) n)) (record { out = λ f c. subst (IsRefusedOn w h) (sym (one_only (event_meant e) f c)) refused; own = inl (just_one (event_meant e)) })
-
-pub own_stays : (w : Fixed Rest) (h : Parts) (e : Event) (none : List code.Event) → none ≡ [] → IsAllowedOn w h e → IsOwn w h e (map event_meant none)
-own_stays w h e none n allowed = subst (λ v. IsOwn w h e (map event_meant v)) (sym n) (record { out = λ f c. absurd (none_in f c); own = inr allowed })
 
 pub not_reached : (w : Fixed Rest) (h : Parts) (e f : Event) (gone : List Event) → may_refuse e f ≡ false → IsAsked w h e f gone gone
 not_reached w h e f gone no_way = record { out = λ g c. inl c; kept = λ g c. c; asked = inr no_way }
@@ -140,8 +160,7 @@ now_gone w h e f gone new same refused = subst (λ v. IsAsked w h e (event_meant
     mapped (x ∷ xs) = rw (mapped xs) refl
 
 -- what was asked for again goes on as it was while more is
-raised : (w : Fixed Rest) (h : Parts) (e f : Event) (gone new : List Event) → (Contains gone f → Contains new f)
-    → (Contains gone f ⊎ IsAllowedOn w h f) ⊎ (may_refuse e f ≡ false) → (Contains new f ⊎ IsAllowedOn w h f) ⊎ (may_refuse e f ≡ false)
+raised : (w : Fixed Rest) (h : Parts) (e f : Event) (gone new : List Event) → (Contains gone f → Contains new f) → IsSettled w h e f gone → IsSettled w h e f new
 raised w h e f gone new kept (inl (inl c)) = inl (inl (kept c))
 raised w h e f gone new kept (inl (inr allowed)) = inl (inr allowed)
 raised w h e f gone new kept (inr no_way) = inr no_way
@@ -156,7 +175,7 @@ one_asked w h e xs i x old gone new within is so_far one = record {
   kept = λ g c. one.kept g (so_far.kept g c);
   asked = λ f c. elim (more_cases xs i x f within is c) [
     | inl a ↦ raised w h e f gone new (one.kept f) (so_far.asked f a)
-    | inr q ↦ subst (λ g. (Contains new g ⊎ IsAllowedOn w h g) ⊎ (may_refuse e g ≡ false)) (sym q) one.asked
+    | inr q ↦ subst (λ g. IsSettled w h e g new) (sym q) one.asked
   ];
 }
 
@@ -164,13 +183,6 @@ pub all_asked : (w : Fixed Rest) (h : Parts) (e : Event) (xs : List code.Event) 
 all_asked w h e xs i old new past so_far = subst (λ v. AreAsked w h e (map event_meant v) old new) (take_all i xs past) so_far
 
 -- ---- kind by kind
-
-pub none_of_kind : (w : Fixed Rest) (h : Parts) (e : Event) (kind : ℕ) (es gone : List Event) → ((f : Event) → kind_of f ≡ kind → may_refuse e f ≡ false) → AreAsked w h e (of_kind kind es) gone gone
-none_of_kind w h e kind es gone stays = record {
-  out = λ g c. inl c;
-  kept = λ g c. c;
-  asked = λ f c. inr (stays f (eqb-true (kind_of f) kind (from_filter (λ g. kind_of g == kind) es f (to_has (of_kind kind es) f c)).1));
-}
 
 -- they stand in two pieces
 pub both_asked : (w : Fixed Rest) (h : Parts) (e : Event) (head tail : List code.Event) (es old middle new : List Event) → map event_meant (head ++ tail) ≡ es
@@ -184,36 +196,76 @@ both_asked w h e head tail es old middle new same ahead behind = record {
   ];
 }
 
-kinds : (f : Event) → (1 ≤ kind_of f) × (kind_of f < 28)
-kinds (Submit n) = (omega arith, omega arith)
-kinds _ = (omega arith, omega arith)
+in_kinds : (kinds : List ℕ) (number : Option ℕ) (es : List Event) (f : Event) → Contains es f → list_any (is_of number f) kinds ≡ true → Contains (of_kinds kinds number es) f
+in_kinds kinds number es f c h = from_has (of_kinds kinds number es) f (has_filter (λ g. list_any (is_of number g) kinds) es f (to_has es f c) h)
 
--- of e itself, and of the kinds below one, all that are refused are gone, but for what e can't refuse
-pub record AreRefusedBelow (w : Fixed Rest) (h : Parts) (e : Event) (es : List Event) (kind : ℕ) (gone : List Event) : Type 0 where
-  pub out : (f : Event) → Contains gone f → IsRefusedOn w h f
-  pub own : Contains gone e ⊎ IsAllowedOn w h e
-  pub below : (f : Event) → Contains es f → kind_of f < kind → (Contains gone f ⊎ IsAllowedOn w h f) ⊎ (may_refuse e f ≡ false)
-
-pub no_kind : (w : Fixed Rest) (h : Parts) (e : Event) (es gone : List Event) → IsOwn w h e gone → AreRefusedBelow w h e es 1 gone
-no_kind w h e es gone its = record { out = its.out; own = its.own; below = λ f c less. absurd (omega (arith, less, (kinds f).0)) }
-
--- the kinds were asked for in the words of the code: of an event that is the same
-pub one_kind : (w : Fixed Rest) (h : Parts) (d e : code.Event) (es : List Event) (kind : ℕ) (gone new : List Event) → d ≡ e
-    → AreRefusedBelow w h (event_meant e) es kind gone → AreAsked w h (event_meant d) (of_kind kind es) gone new → AreRefusedBelow w h (event_meant e) es (kind + 1) new
-one_kind w h d e es kind gone new same so_far one = record {
-  out = λ f c. elim (one.out f c) [ inl a ↦ so_far.out f a | inr r ↦ r ];
-  own = elim so_far.own [ inl c ↦ inl (one.kept (event_meant e) c) | inr allowed ↦ inr allowed ];
-  below = λ f c less. elim (cases_lt (kind_of f) kind) [
-    | inl a ↦ raised w h (event_meant e) f gone new (one.kept f) (so_far.below f c a)
-    | inr b ↦
-        let q : kind_of f ≡ kind = omega (arith, less, b) in
-        subst (λ x. (Contains new f ⊎ IsAllowedOn w h f) ⊎ (may_refuse (event_meant x) f ≡ false)) same
-        (one.asked f (from_has (of_kind kind es) f (has_filter (λ g. kind_of g == kind) es f (to_has es f c) (eq-eqb (kind_of f) kind q))))
-  ];
+pub no_kinds : (w : Fixed Rest) (h : Parts) (e : Event) (number : Option ℕ) (es gone : List Event) → AreAsked w h e (of_kinds [] number es) gone gone
+no_kinds w h e number es gone = record {
+  out = λ g c. inl c;
+  kept = λ g c. c;
+  asked = λ f c. absurd (true≢false (sym (from_filter (λ g. list_any (is_of number g) []) es f (to_has (of_kinds [] number es) f c)).1));
 }
 
-pub all_kinds : (w : Fixed Rest) (h : Parts) (e : Event) (es : List Event) (kind : ℕ) (gone : List Event) → 28 ≤ kind → AreRefusedBelow w h e es kind gone → AreRefused w h e es gone
-all_kinds w h e es kind gone past so_far = record { out = so_far.out; own = so_far.own; all = λ f c. so_far.below f c (omega (arith, past, (kinds f).1)) }
+any_more : (test : ℕ → Bool) (kinds : List ℕ) (i d : ℕ) → i < length kinds → list_any test (take (i + 1) kinds) ≡ true → (list_any test (take i kinds) ≡ true) ⊎ (test (get_or kinds i d) ≡ true)
+any_more test kinds i d l h =
+    let both : (list_any test (take i kinds) || list_any test (get_or kinds i d ∷ [])) ≡ true =
+    sym (list_any-append test (take i kinds) (get_or kinds i d ∷ [])) ∙ (sym (ap (list_any test) (take_more kinds i d l)) ∙ h) in
+    elim (or_cases (list_any test (take i kinds)) (list_any test (get_or kinds i d ∷ [])) both) [
+      | inl a ↦ inl a
+      | inr b ↦ elim (or_cases (test (get_or kinds i d)) false b) [ inl a ↦ inr a | inr z ↦ absurd (true≢false (sym z)) ]
+    ]
+
+pub one_kind : (w : Fixed Rest) (h : Parts) (e : Event) (kinds : List ℕ) (i kind d : ℕ) (number : Option ℕ) (es old gone new : List Event) → i < length kinds → kind ≡ get_or kinds i d
+    → AreAsked w h e (of_kinds (take i kinds) number es) old gone → AreAsked w h e (of_kind kind number es) gone new → AreAsked w h e (of_kinds (take (i + 1) kinds) number es) old new
+one_kind w h e kinds i kind d number es old gone new within is so_far one = record {
+  out = λ g c. elim (one.out g c) [ inl a ↦ so_far.out g a | inr r ↦ inr r ];
+  kept = λ g c. one.kept g (so_far.kept g c);
+  asked = λ f c.
+      let p = from_filter (λ g. list_any (is_of number g) (take (i + 1) kinds)) es f (to_has (of_kinds (take (i + 1) kinds) number es) f c) in
+      elim (any_more (is_of number f) kinds i d within p.1) [
+        | inl a ↦ raised w h e f gone new (one.kept f) (so_far.asked f (in_kinds (take i kinds) number es f (from_has es f p.0) a))
+        | inr b ↦ one.asked f (from_has (of_kind kind number es) f (has_filter (λ g. is_of number g kind) es f p.0 (subst (λ k. is_of number f k ≡ true) (sym is) b)))
+      ];
+}
+
+pub all_kinds : (w : Fixed Rest) (h : Parts) (e : Event) (kinds : List ℕ) (i : ℕ) (number : Option ℕ) (es old new : List Event) → length kinds ≤ i
+    → AreAsked w h e (of_kinds (take i kinds) number es) old new → AreAsked w h e (of_kinds kinds number es) old new
+all_kinds w h e kinds i number es old new past so_far = subst (λ ks. AreAsked w h e (of_kinds ks number es) old new) (take_all i kinds past) so_far
+
+-- what is among kinds in the words of the reach is so in those of the list
+of_any : (kinds : List ℕ) (f : Event) → is_among kinds f ≡ true → list_any (is_of None f) kinds ≡ true
+of_any [] f h = h
+of_any (k ∷ ks) f h = elim (or_cases (k == kind_of f) (is_among ks f) h) [
+  | inl a ↦ or_left (is_of None f k) (list_any (is_of None f) ks) (eq-eqb (kind_of f) k (sym (eqb-true k (kind_of f) a)))
+  | inr b ↦ or_right (is_of None f k) (list_any (is_of None f) ks) (of_any ks f b)
+]
+
+of_number : (kinds : List ℕ) (n : ℕ) (f : Event) → is_among kinds f ≡ true → n ≡ first_of f → list_any (is_of (Some n) f) kinds ≡ true
+of_number [] n f h q = h
+of_number (k ∷ ks) n f h q = elim (or_cases (k == kind_of f) (is_among ks f) h) [
+  | inl a ↦
+      let one : is_of (Some n) f k ≡ true = rw (eq-eqb (kind_of f) k (sym (eqb-true k (kind_of f) a)), eq-eqb (first_of f) n (sym q)) refl in
+      or_left (is_of (Some n) f k) (list_any (is_of (Some n) f) ks) one
+  | inr b ↦ or_right (is_of (Some n) f k) (list_any (is_of (Some n) f) ks) (of_number ks n f b q)
+]
+
+-- All that the event reaches was asked for: in the words of the code, of an event that is the same.
+pub all_reached : (w : Fixed Rest) (h : Parts) (d e : code.Event) (es none first second last : List Event) (wholly on_actor numbered : List ℕ) (actor number : ℕ) → d ≡ e
+    → ((f : Event) → may_refuse (event_meant d) f ≡ is_reached wholly on_actor actor numbered number f) → none ≡ []
+    → AreAsked w h (event_meant d) (of_kinds wholly None es) none first → AreAsked w h (event_meant d) (of_kinds on_actor None es) first second
+    → AreAsked w h (event_meant d) (of_kinds numbered (Some number) es) second last → AreRefused w h (event_meant e) es last
+all_reached w h d e es none first second last wholly on_actor numbered actor number same reach empty one two three = subst (λ x. AreRefused w h (event_meant x) es last) same (record {
+  out = λ f c. elim (three.out f c) [ inl a ↦ elim (two.out f a) [ inl b ↦ elim (one.out f b) [ inl g ↦ absurd (none_in f (subst (λ v. Contains v f) empty g)) | inr r ↦ r ] | inr r ↦ r ] | inr r ↦ r ];
+  all = λ f c. by f c (is_among wholly f) refl (is_among on_actor f) refl (is_among numbered f) refl (number == first_of f) refl;
+})
+  where
+    by : (f : Event) → Contains es f → (a : Bool) → is_among wholly f ≡ a → (b : Bool) → is_among on_actor f ≡ b → (c : Bool) → is_among numbered f ≡ c → (n : Bool) → (number == first_of f) ≡ n
+        → IsSettled w h (event_meant d) f last
+    by f i true p b q c r n s = raised w h (event_meant d) f first last (λ g. three.kept f (two.kept f g)) (one.asked f (in_kinds wholly None es f i (of_any wholly f p)))
+    by f i false p true q c r n s = raised w h (event_meant d) f second last (three.kept f) (two.asked f (in_kinds on_actor None es f i (of_any on_actor f q)))
+    by f i false p false q true r true s = three.asked f (in_kinds numbered (Some number) es f i (of_number numbered number f r (eqb-true number (first_of f) s)))
+    by f i false p false q true r false s = inr (reach f ∙ or_from _ _ p (or_from _ _ (and_left _ _ q) (and_right _ _ s)))
+    by f i false p false q false r n s = inr (reach f ∙ or_from _ _ p (or_from _ _ (and_left _ _ q) (and_left _ _ r)))
 
 -- ---- together
 
@@ -224,34 +276,42 @@ new_is w e s f ruled touched before now = by (refusal w f s == 0) refl
     by true q = absurd (before ((ruled s).0 (eqb-true (refusal w f s) 0 q)))
     by false q = rw (touched, q, eq-eqb (refusal w f (after w e s)) 0 ((ruled (after w e s)).1 now)) refl
 
+-- what was there stays where it is allowed, but for the event itself, which is not allowed right behind itself
 pub renewed : (w : Fixed Rest) (h : Parts) (e : Event) (ahead news gone old middle new : List Event)
     → ((w : Fixed Rest) (e : Event) (s : Machine Rest) → HasRun w s → IsAllowed w e s → HasRun w (after w e s))
     → ((w : Fixed Rest) (e : Event) (s : Machine Rest) → (refusal w e s ≡ 0) ↔ IsAllowed w e s)
     → ((asked : Event → Bool) (w : Fixed Rest) (s : Machine Rest) (es : List Event) → PartsTell asked w s es → (f : Event) → asked f ≡ true → IsAllowed w f s → Contains es f)
-    → OfEveryRun (RenewedAreEnabled {C = Rest})
+    → OfEveryRun (RenewedAreEnabled {C = Rest}) → AfterEveryRun (RefusesItself {C = Rest})
+    → ((e : Event) (es : List Event) (f : Event) → Contains (without e es) f → Contains es f × (f ≡ e → ⊥))
+    → ((e : Event) (es : List Event) (f : Event) → Contains es f → Contains (without e es) f ⊎ (f ≡ e))
+    → ((e : Event) (es : List Event) → AscendByRank es → AscendByRank (without e es))
     → ((s : Machine Rest) → IsBehind w e s h → IsForeseen w e s ahead → PartsTell (is_new w e s) w (after w e s) news)
-    → AreRefused w h e old gone → IsWithout gone old middle → IsWith w h news middle new
+    → AreRefused w h e old gone → IsWithout gone (without e old) middle → IsWith w h news middle new
     → (s : Machine Rest) → IsBehind w e s h → IsForeseen w e s ahead → IsEnabled w s old → IsEnabled w (after w e s) new
-renewed w h e ahead news gone old middle new on ruled tells enabled told out less more s is foreseen =
+renewed w h e ahead news gone old middle new on ruled tells enabled once others kept order told out less more s is foreseen =
     let run = is.run in
     subst (λ t. IsAllowed w e t → IsRenewed w e t old new → IsEnabled w t old → IsEnabled w (after w e t) new) (sym run.is_reached) (enabled w run.finish run.events run.facts run.text run.run e old new) is.allowed (record {
       only = λ f c. elim (more.only f c) [
         | inl a ↦
             let p = less.only f a in
-            elim (out.all f p.0) [ inl b ↦ elim b [ inl g ↦ absurd (p.1 g) | inr allowed ↦ inl (here f allowed) ] | inr n ↦ inr (p.0, n) ]
+            let q = others e old f p.0 in
+            elim (out.all f q.0) [ inl b ↦ elim b [ inl g ↦ absurd (p.1 g) | inr allowed ↦ inl (here f allowed) ] | inr n ↦ inr (q.0, n) ]
         | inr allowed ↦ inl (here f allowed)
       ];
-      own = elim out.own [
-        | inl g ↦ inr (λ c. elim (more.only e c) [ inl a ↦ (less.only e a).1 g | inr allowed ↦ out.out e g (after w e s) later is.fits (here e allowed) ])
-        | inr allowed ↦ inl (here e allowed)
+      own = inr (λ c. elim (more.only e c) [ inl a ↦ (others e old e (less.only e a).0).1 refl | inr allowed ↦ own e is.allowed (here e allowed) ]);
+      kept = λ f c now. elim (kept e old f c) [
+        | inl b ↦ elim (less.kept f b) [ inl a ↦ more.kept f a | inr g ↦ absurd (out.out f g (after w e s) later is.fits now) ]
+        | inr same ↦ absurd (own e is.allowed (subst (λ g. IsAllowed w g (after w e s)) same now))
       ];
-      kept = λ f c now. elim (less.kept f c) [ inl a ↦ more.kept f a | inr g ↦ absurd (out.out f g (after w e s) later is.fits now) ];
       told = λ f touched before now. elim (more.due f (tells (is_new w e s) w (after w e s) news (told s is foreseen) f (new_is w e s f (ruled w f) touched before now) now)) [ inl c ↦ c | inr r ↦ absurd (r (after w e s) later is.fits now) ];
-      ascends = λ a. more.ascends (less.ascends a);
+      ascends = λ a. more.ascends (less.ascends (order e old a));
     })
   where
     later : HasRun w (after w e s)
     later = on w e s is.run is.allowed
+
+    own : RefusesItself w s
+    own = subst (RefusesItself w) (sym is.run.is_reached) (once w is.run.events is.run.text is.run.run)
 
     here : (f : Event) → IsAllowedOn w h f → IsAllowed w f (after w e s)
     here f allowed = allowed (after w e s) later is.fits

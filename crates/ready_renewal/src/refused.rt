@@ -1,7 +1,7 @@
 //! Which of the kept events an event has refused.
-ghost use Rattle.std.specs.Prelude.{map, IfOk, OnOk};
+ghost use Rattle.std.specs.Prelude.{◌≡◌, ◌++◌, map, IfOk, OnOk};
 ghost use Rattle.core_events.specs.Meant.{event_meant};
-ghost use Rattle.ready_renewal.specs.Asked.{AreAsked, AreRefused, IsAsked, IsOwn, of_kind};
+ghost use Rattle.ready_renewal.specs.Asked.{AreAsked, AreRefused, IsAsked, of_kind, of_kinds};
 ghost use Rattle.snap_hand.specs.Hands.{IsHandOf, IsWhole};
 ghost use Rattle.snap_hand.specs.Steps.{OnSomeRun};
 ghost use Rattle.snap_hand.specs.Tables.{AreTables, fixed_of};
@@ -12,22 +12,6 @@ use ready_list::{Reach, ReadyList};
 use snap_base::Memory;
 use snap_hand::{Hand, Tables};
 use std::alloc::Global;
-
-/// The event itself, where it is refused now.
-fn own(alloc: Global, tables: &Tables, hand: &Hand, e: Event) -> Result<Vec<Event>, Memory>
-    requires tables { AreTables tables.now }
-    requires places { IsHandOf (fixed_of tables.now) hand.now }
-    requires whole { IsWhole hand.now }
-    requires some { OnSomeRun (fixed_of tables.now) hand.now }
-    ensures { IfOk result (λ v. IsOwn (fixed_of tables.now) hand.now (event_meant e) (map event_meant v.items)) }
-{
-    let mut gone = Vec::new(alloc);
-    if is_allowed(tables, hand, e) {
-        return Ok(gone);
-    }
-    gone.push(e)?;
-    Ok(gone)
-}
 
 /// Asks for an event again, where it may be refused, and adds it where it is.
 fn ask_again(
@@ -73,32 +57,62 @@ fn ask_each(
     Ok(())
 }
 
-/// Asks again for the kept events of a kind. Where none of the kind may be refused they are not gone over.
+// Those of this kind, or of these those with this first number, in order, in two pieces.
+fn pieces(list: &ReadyList, kind: u8, number: Option<u64>) -> (&[Event], &[Event])
+    ensures { map event_meant (result.0.now ++ result.1.now) ≡ of_kind kind number list.now.events }
+{
+    match number {
+        None => list.of_kind(kind),
+        Some(number) => list.of_number(kind, number),
+    }
+}
+
+/// Asks again for the kept events of a kind, or for those of these with this first number.
 fn ask_kind(
     tables: &Tables,
     hand: &Hand,
     reach: &Reach,
     list: &ReadyList,
     kind: u8,
+    number: Option<u64>,
     gone: &mut Vec<Event>,
 ) -> Result<(), Memory>
     requires tables { AreTables tables.now }
     requires places { IsHandOf (fixed_of tables.now) hand.now }
     requires whole { IsWhole hand.now }
     requires some { OnSomeRun (fixed_of tables.now) hand.now }
-    ensures { OnOk result (AreAsked (fixed_of tables.now) hand.now (event_meant reach.now.event) (of_kind kind list.now.events) (map event_meant gone.old.items) (map event_meant gone.new.items)) }
+    ensures { OnOk result (AreAsked (fixed_of tables.now) hand.now (event_meant reach.now.event) (of_kind kind number list.now.events) (map event_meant gone.old.items) (map event_meant gone.new.items)) }
 {
-    if !reach.may_refuse_kind(kind) {
-        return Ok(());
-    }
-    let (head, tail) = list.of_kind(kind);
+    let (head, tail) = pieces(list, kind, number);
     ask_each(tables, hand, reach, head, gone)?;
     ask_each(tables, hand, reach, tail, gone)?;
     Ok(())
 }
 
-/// Those of the kept events, and the event itself, that are refused now. Only the kinds are gone over of which the event may refuse
-/// any: so the replies, which may be many, are passed over.
+/// Asks again for the kept events of these kinds, or for those of these with this first number.
+fn ask_kinds(
+    tables: &Tables,
+    hand: &Hand,
+    reach: &Reach,
+    list: &ReadyList,
+    kinds: &[u8],
+    number: Option<u64>,
+    gone: &mut Vec<Event>,
+) -> Result<(), Memory>
+    requires tables { AreTables tables.now }
+    requires places { IsHandOf (fixed_of tables.now) hand.now }
+    requires whole { IsWhole hand.now }
+    requires some { OnSomeRun (fixed_of tables.now) hand.now }
+    ensures { OnOk result (AreAsked (fixed_of tables.now) hand.now (event_meant reach.now.event) (of_kinds kinds.now number list.now.events) (map event_meant gone.old.items) (map event_meant gone.new.items)) }
+{
+    for kind in kinds {
+        ask_kind(tables, hand, reach, list, *kind, number, gone)?;
+    }
+    Ok(())
+}
+
+/// Those of the kept events that the event has refused. Only the kinds are gone over of which the event may refuse
+/// any, and of most of these only what has its number.
 pub(crate) fn refused(
     alloc: Global,
     tables: &Tables,
@@ -113,9 +127,18 @@ pub(crate) fn refused(
     ensures { IfOk result (λ v. AreRefused (fixed_of tables.now) hand.now (event_meant e) list.now.events (map event_meant v.items)) }
 {
     let reach = Reach::of(e);
-    let mut gone = own(alloc, tables, hand, e)?;
-    for kind in 1..28 {
-        ask_kind(tables, hand, &reach, list, kind, &mut gone)?;
-    }
+    let mut gone = Vec::new(alloc);
+    ask_kinds(tables, hand, &reach, list, reach.wholly, None, &mut gone)?;
+    ask_kinds(tables, hand, &reach, list, reach.on_actor, None, &mut gone)?;
+    let number = Some(reach.number);
+    ask_kinds(
+        tables,
+        hand,
+        &reach,
+        list,
+        reach.numbered,
+        number,
+        &mut gone,
+    )?;
     Ok(gone)
 }

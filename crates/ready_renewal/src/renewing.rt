@@ -12,7 +12,7 @@ ghost use Rattle.snap_hand.specs.Tables.{AreTables, fixed_of};
 ghost use Rattle.ready_news.specs.New.{IsBehind, IsForeseen};
 
 use crate::refused::refused;
-use crate::revising::{put_in, take_out};
+use crate::revising::{put_all, put_in, take_out};
 use aml_slice::Control;
 use core_events::Event;
 use protocol_laws::allowed_or_refused;
@@ -26,7 +26,8 @@ use snap_base::Memory;
 use snap_hand::{Hand, Tables, runs_go_on};
 use std::alloc::Global;
 
-/// Makes of all allowed events before the event, which was just taken, all allowed events after it. All parts are at hand, as
+/// Makes of all allowed events before the event, which was just taken, all allowed events after it: the event is taken out, since it
+/// is not allowed right behind itself, what it has refused is, and what it has made allowed is put in. All parts are at hand, as
 /// they are after it. For want of memory the list is as it was. What `foreseen` put into `news` ahead of the event is handed in;
 /// nothing is said of what `news` has then.
 pub fn renew(
@@ -48,19 +49,23 @@ pub fn renew(
     allowed_or_refused::<Control>();
     parts_tell_all::<Control>();
     renewed_are_enabled::<Control>();
+    no_event_is_allowed_again::<Control>();
+    events_stay_in_order();
+    one_is_taken();
     touched(alloc, tables, hand, e, news)?;
     let gone = refused(alloc, tables, hand, e, list)?;
     let listed = news.as_slice();
     list.room(listed)?;
+    list.take(e);
     take_out(list, &gone);
     put_in(tables, hand, listed, list);
     Ok(())
 }
 
 /// Makes of events among which all were that were allowed before the event, which was just taken, events among which all are that
-/// are allowed after it: the event is taken out, since it is not allowed right behind itself, and what it has made allowed is put
-/// in. All parts are at hand, as they are after it. For want of memory the list is as it was. What `foreseen` put into `news` ahead
-/// of the event is handed in; nothing is said of what `news` has then.
+/// are allowed after it: the event is taken out, since it is not allowed right behind itself, and what it may have made allowed is
+/// put in, with no event asked. All parts are at hand, as they are after it. For want of memory the list is as it was. What
+/// `foreseen` put into `news` ahead of the event is handed in; nothing is said of what `news` has then.
 pub fn advance(
     alloc: Global,
     tables: &Tables,
@@ -72,11 +77,9 @@ pub fn advance(
     requires tables { AreTables tables.now }
     requires places { IsHandOf (fixed_of tables.now) hand.now }
     requires whole { IsWhole hand.now }
-    requires some { OnSomeRun (fixed_of tables.now) hand.now }
     ensures advanced { OnOk result ((s : Machine Rest) → IsBehind (fixed_of tables.now) (event_meant e) s hand.now → IsForeseen (fixed_of tables.now) (event_meant e) s (map event_meant news.old.items) → Covers (fixed_of tables.now) s list.old.events → Covers (fixed_of tables.now) (after (fixed_of tables.now) (event_meant e) s) list.new.events) }
     ensures unchanged { OnErr result (list.new.events ≡ list.old.events) }
 {
-    runs_go_on::<Control>();
     allowed_or_refused::<Control>();
     parts_tell_all::<Control>();
     untouched_stay::<Control>();
@@ -88,6 +91,6 @@ pub fn advance(
     let listed = news.as_slice();
     list.room(listed)?;
     list.take(e);
-    put_in(tables, hand, listed, list);
+    put_all(listed, list);
     Ok(())
 }

@@ -3,7 +3,7 @@ ghost use Rattle.std.specs.Prelude.{ℕ, ◌+◌, ◌≤◌, map, length, Contai
 ghost use Rattle.core_events.specs.Meant.{event_meant};
 ghost use Rattle.protocol.specs.Events as machine;
 ghost use Rattle.ready_list.specs.Order.{kind_of, spare_of};
-ghost use Rattle.ready_renewal.specs.Asked.{IsPutIn, IsWith, IsWithout};
+ghost use Rattle.ready_renewal.specs.Asked.{IsPutIn, IsWith, IsWithAll, IsWithout};
 ghost use Rattle.snap_hand.specs.Hands.{IsHandOf, IsWhole};
 ghost use Rattle.snap_hand.specs.Steps.{OnSomeRun};
 ghost use Rattle.snap_hand.specs.Tables.{AreTables, fixed_of};
@@ -54,5 +54,17 @@ pub(crate) fn put_in(tables: &Tables, hand: &Hand, news: &[Event], list: &mut Re
 {
     for e in news {
         look(tables, hand, *e, list);
+    }
+}
+
+/// Puts all of these in, and asks of none whether it is allowed.
+pub(crate) fn put_all(news: &[Event], list: &mut ReadyList)
+    requires { (f : machine.Event) → Contains (map event_meant news.now) f → length news.now ≤ spare_of list.old (kind_of f) }
+    ensures { IsWithAll (map event_meant news.now) list.old.events list.new.events }
+{
+    events_stay_in_order();
+    one_is_put();
+    for e in news {
+        list.put(*e);
     }
 }
