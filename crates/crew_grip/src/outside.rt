@@ -15,7 +15,7 @@ use crate::Grip;
 use crate::results::NotDone;
 use aml_slice::Control;
 use core_events::{DESK, Event, part_of_log};
-use crew_parts::{Share, appends_drive, runs_of};
+use crew_parts::{Beside, Share, appends_drive, runs_of};
 use gate_log::AppendNo;
 use protocol_laws::allowed_or_refused;
 use snap_base::{Sequence, TxNo};
@@ -33,6 +33,24 @@ fn why_of(no: AppendNo) -> NotDone
         AppendNo::Memory => NotDone::Memory,
         AppendNo::Device | AppendNo::Shut => NotDone::Fault,
     }
+}
+
+/// Appends the pieces to the journal beside the part of this number.
+fn append_at<D: LogDev + Drop, O: Sink + Drop>(
+    alloc: Global,
+    besides: &mut Vec<Option<Beside<D, O>>>,
+    part: usize,
+    pieces: &[Sequence<u8>],
+) -> Result<(), AppendNo>
+    requires { (b : BesideState) × ((at besides.old.items part ≡ Some b) × MayAppendTo b pieces.now) }
+    ensures { (b : BesideState) → at besides.old.items part ≡ Some b → (c : BesideState) × (HasAppended b c pieces.now result × (besides.new.items ≡ slice_set besides.old.items part (Some c))) }
+{
+    let Some(mut beside) = besides[part].take() else {
+        unreachable!()
+    };
+    let result = beside.append(alloc, pieces);
+    let _none = besides[part].replace(beside);
+    result
 }
 
 impl<D: LogDev + Drop, O: Sink + Drop> Grip<D, O> {
@@ -75,31 +93,11 @@ impl<D: LogDev + Drop, O: Sink + Drop> Grip<D, O> {
         appends_drive();
         allowed_or_refused::<Control>();
         places_are_set();
-        let Ok(pieces) = self.hand.group(alloc, l) else {
-            return Err(NotDone::Memory);
-        };
-        match self.append_at(alloc, part_of_log(l), pieces.as_slice()) {
+        let pieces = self.hand.group(l);
+        match append_at(alloc, &mut self.besides, part_of_log(l), pieces) {
             Ok(()) => Ok(()),
             Err(no) => Err(why_of(no)),
         }
-    }
-
-    /// Appends the pieces to the journal beside this part.
-    fn append_at(
-        &mut self,
-        alloc: Global,
-        part: usize,
-        pieces: &[Sequence<u8>],
-    ) -> Result<(), AppendNo>
-        requires { (b : BesideState) × ((at self.old.besides part ≡ Some b) × MayAppendTo b pieces.now) }
-        ensures { (b : BesideState) → at self.old.besides part ≡ Some b → (c : BesideState) × (HasAppended b c pieces.now result × (self.new ≡ record self.old { besides = slice_set self.old.besides part (Some c) })) }
-    {
-        let Some(mut beside) = self.take_up(part) else {
-            unreachable!()
-        };
-        let result = beside.append(alloc, pieces);
-        self.lay(part, beside);
-        result
     }
 
     /// Prints the line of transaction `n`, where its verdict is known.

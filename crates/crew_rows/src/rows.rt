@@ -184,14 +184,14 @@ fn append(alloc: Global, core: &Core, logs: &mut Vec<Log<MemLog>>, l: u8) -> Res
     if l >= core.tables().work.logs {
         return Ok(());
     }
-    let pieces = core.group(alloc, l)?;
+    let pieces = core.group(l);
     let Some(log) = logs.get_mut(l as usize) else {
         return Ok(());
     };
-    if log.format() != 2 || !log.may_append(pieces.as_slice()) {
+    if log.format() != 2 || !log.may_append(pieces) {
         return Ok(());
     }
-    match log.append(alloc, pieces.as_slice()) {
+    match log.append(alloc, pieces) {
         Ok(()) => Ok(()),
         Err(_) => Err(Memory),
     }

@@ -9,7 +9,6 @@
 #![tactic(auto)]
 
 mod askings;
-mod copies;
 mod item;
 mod laws;
 mod part;

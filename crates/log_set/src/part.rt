@@ -84,12 +84,12 @@ impl LogPart {
         Ok(())
     }
 
-    /// A copy of the bytes of the records that wait, in the order in which they were added.
-    pub fn group(&self, alloc: Global) -> Result<Sequence<Sequence<u8>>, Memory>
-        ensures log { IfOk result (λ pieces. pieces ≡ self.now.log.waiting) }
-        ensures shows { (l : Log) → ShowsLog self.now.log l → IfOk result (λ pieces. pieces ≡ map told_bytes (drop l.synced l.records)) }
+    /// The bytes of the records that wait, in the order in which they were added.
+    pub fn group(&self) -> &[Sequence<u8>]
+        ensures log { result.now ≡ self.now.log.waiting }
+        ensures shows { (l : Log) → ShowsLog self.now.log l → result.now ≡ map told_bytes (drop l.synced l.records) }
     {
-        self.pending.group(alloc)
+        self.pending.group()
     }
 
     /// All records are synced: the device has them durably. The bytes of those that waited are given up.

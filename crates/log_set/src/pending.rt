@@ -2,7 +2,6 @@
 ghost use Rattle.std.specs.Prelude.{◌≡◌, ◌+◌, ◌<◌, ◌≤◌, drop, length, IsOk, IfOk, OnOk, OnErr};
 ghost use Rattle.log_set.specs.Logs.{no_records, with_record, all_synced, is_key_durable};
 
-use crate::copies::copies_of;
 use crate::places::put_first;
 use snap_base::{Memory, Sequence};
 use std::alloc::Global;
@@ -110,11 +109,11 @@ impl Pending {
         &self.keys.as_slice()[self.synced..]
     }
 
-    /// A copy of the bytes of the records that are not synced, in the order in which they were added.
-    pub fn group(&self, alloc: Global) -> Result<Sequence<Sequence<u8>>, Memory>
-        ensures { IfOk result (λ pieces. pieces ≡ self.now.log.waiting) }
+    /// The bytes of the records that are not synced, in the order in which they were added.
+    pub fn group(&self) -> &[Sequence<u8>]
+        ensures { result.now ≡ self.now.log.waiting }
     {
-        copies_of(alloc, self.waiting.as_slice())
+        self.waiting.as_slice()
     }
 
     /// All records are synced: the device has them durably. The bytes of those that waited are given up.

@@ -77,11 +77,10 @@ still_core t e old new (Err n) on step c = subst (IsCore t) (sym step.1) c
 
 -- ---- what waits for a sync
 
-pub group_at : {E : Type 0} (core : CoreState) (t : Tables) (h : Parts) → core_of t h ≡ core → (r : Result (List (List ℕ)) E) (l : ℕ)
-    → IfOk r (λ pieces. (s : Machine Rest) → Fits h s → pieces ≡ map told_bytes (drop (log_at s l).synced (log_at s l).records))
-    → IfOk r (λ pieces. (es : List Event) → IsAt core es → pieces ≡ map told_bytes (drop (log_at (state_at core es) l).synced (log_at (state_at core es) l).records))
-group_at core t h view (Err e) l told = tt
-group_at core t h view (Ok pieces) l told = λ es at. told (state_at core es) (subst (λ z. Fits z.hand (state_at core es)) (sym view) at.fits)
+pub group_at : (core : CoreState) (t : Tables) (h : Parts) → core_of t h ≡ core → (pieces : List (List ℕ)) (l : ℕ)
+    → ((s : Machine Rest) → Fits h s → pieces ≡ map told_bytes (drop (log_at s l).synced (log_at s l).records))
+    → (es : List Event) → IsAt core es → pieces ≡ map told_bytes (drop (log_at (state_at core es) l).synced (log_at (state_at core es) l).records)
+group_at core t h view pieces l told es at = told (state_at core es) (subst (λ z. Fits z.hand (state_at core es)) (sym view) at.fits)
 
 -- ---- with all parts at hand all allowed events are offered
 

@@ -1,5 +1,5 @@
 //! What a core tells: its text, what became of a transaction, an actor's state, and the records that wait for a sync.
-ghost use Rattle.std.specs.Prelude.{◌≡◌, ◌<◌, List, length, map, drop, IfOk};
+ghost use Rattle.std.specs.Prelude.{◌≡◌, ◌<◌, List, length, map, drop};
 ghost use Rattle.snap_hand.specs.log_set.Shown.{told_bytes};
 ghost use Rattle.protocol.specs.Effects.{cell_at, log_at};
 ghost use Rattle.protocol.specs.Events as machine;
@@ -8,9 +8,8 @@ ghost use Rattle.snap_core.specs.Cores.{IsAt, state_at};
 ghost use Rattle.snap_hand.specs.Tables.{AreTables};
 
 use crate::Core;
-use snap_base::{ActorId, Memory, Sequence, State, TxNo, Verdict};
+use snap_base::{ActorId, Sequence, State, TxNo, Verdict};
 use snap_hand::Tables;
-use std::alloc::Global;
 
 impl Core {
     /// The text that it runs, which is accepted, and what its logs recovered to.
@@ -38,11 +37,11 @@ impl Core {
     }
 
     /// The records of log `l` that wait for a sync: the bytes of each, in the order in which they were added. The text must have
-    /// the log. Each record is copied; an `Err` is want of memory.
-    pub fn group(&self, alloc: Global, l: u8) -> Result<Sequence<Sequence<u8>>, Memory>
+    /// the log.
+    pub fn group(&self, l: u8) -> &[Sequence<u8>]
         requires { l < self.now.tables.work.logs }
-        ensures { IfOk result (λ pieces. (es : List machine.Event) → IsAt self.now es → pieces ≡ map told_bytes (drop (log_at (state_at self.now es) l).synced (log_at (state_at self.now es) l).records)) }
+        ensures { (es : List machine.Event) → IsAt self.now es → result.now ≡ map told_bytes (drop (log_at (state_at self.now es) l).synced (log_at (state_at self.now es) l).records) }
     {
-        self.hand.group(alloc, l)
+        self.hand.group(l)
     }
 }

@@ -1,6 +1,6 @@
 //! What a hand tells: what became of a transaction, an actor's state, and the records that wait for a sync. Each answer is
 //! about every state that the hand fits.
-ghost use Rattle.std.specs.Prelude.{◌≡◌, ◌<◌, length, map, drop, IfOk};
+ghost use Rattle.std.specs.Prelude.{◌≡◌, ◌<◌, length, map, drop};
 ghost use Rattle.aml_slice.specs.Controls.{Rest};
 ghost use Rattle.core_rows.specs.log_set.Shown.{told_bytes};
 ghost use Rattle.protocol.specs.Effects.{cell_at, log_at};
@@ -10,8 +10,7 @@ ghost use Rattle.protocol.specs.Verdicts.{verdict};
 ghost use Rattle.snap_hand.specs.Hands.{Fits, Has};
 
 use crate::Hand;
-use snap_base::{ActorId, Memory, Sequence, State, TxNo, Verdict};
-use std::alloc::Global;
+use snap_base::{ActorId, Sequence, State, TxNo, Verdict};
 
 impl Hand {
     /// What became of transaction `n` of the text, which counts from 0; `None` where it is not known yet, or the text has no such
@@ -35,13 +34,12 @@ impl Hand {
     }
 
     /// The records of log `l` that wait for a sync: the bytes of each, in the order in which they were added. The text must have
-    /// the log, and it must be at hand. Each record is copied; an `Err` is want of memory, and the log keeps its records either
-    /// way.
-    pub fn group(&self, alloc: Global, l: u8) -> Result<Sequence<Sequence<u8>>, Memory>
+    /// the log, and it must be at hand.
+    pub fn group(&self, l: u8) -> &[Sequence<u8>]
         requires exists { l < length self.now.logs }
         requires log { Has self.now (log l) }
-        ensures { IfOk result (λ pieces. (s : Machine Rest) → Fits self.now s → pieces ≡ map told_bytes (drop (log_at s l).synced (log_at s l).records)) }
+        ensures { (s : Machine Rest) → Fits self.now s → result.now ≡ map told_bytes (drop (log_at s l).synced (log_at s l).records) }
     {
-        self.log(l as usize).group(alloc)
+        self.log(l as usize).group()
     }
 }

@@ -20,18 +20,12 @@ use Rattle.run_effects.specs.Lines.{replies_text}
 use Rattle.snap_outside.specs.Causes.{Rose}
 use Rattle.solo_host.specs.Drives.{log_at, failed_by, IsWhy, IsPrinted}
 use Rattle.run_effects.specs.RunsOf.{RunsOf}
+use Rattle.solo_host.specs.Together.{IsDriving, IsOver}
 use Rattle.solo_host.specs.Outside.{Outside, Got, no_group, no_fault, AreLow, AreOfFormat2, IsPrepared, IsPicked, IsEnd}
 use Rattle.run_effects.specs.declared.stops.Stop.{Stop}
 use Rattle.run_effects.specs.declared.stops.Stop.TheVariants as stop
 use Rattle.solo_host.proofs.GotGroups.{got_nothing, got_join, got_open, got_same}
 use Rattle.solo_host.proofs.Picking.{goes_on, picked_allowed}
-
--- the events so far are a front of the schedule, and the outside got their groups and lines
-pub record IsDriving (w : Fixed Rest) (seed : ℕ) (es : List Event) (start now : Outside) : Type 0 where
-  pub front : IsFrontOfSeed w seed es
-  pub logs : Got start.logs now.logs (λ l. groups_of w l es) no_fault
-  pub printed : Appends start.taken now.taken (replies_text w es)
-  pub later : start.faults ≤ now.faults
 
 pub begins : (w : Fixed Rest) (seed : ℕ) (start : Outside) → AreAllOpen start.logs → IsDriving w seed [] start start
 begins w seed start ready = record { front = tt; logs = got_nothing start.logs ready; printed = Appends-nil start.taken; later = omega arith }
@@ -68,7 +62,7 @@ goes_further w seed es e start now new runs run driving picked done = record {
 
 -- ---- where the host ends
 
-rose_since : (a b c : ℕ) → a ≤ b → Rose b c → Rose a c
+pub rose_since : (a b c : ℕ) → a ≤ b → Rose b c → Rose a c
 rose_since a b c le rose = omega (arith, le, rose)
 
 pub are_driven : (w : Fixed Rest) (seed : ℕ) (es : List Event) (why : Stop) (start now new : Outside) → IsDriving w seed es start now
@@ -110,14 +104,6 @@ is_printed w seed es stop.OutFault start now new driving end = (
 )
 is_printed w seed es stop.Memory start now new driving end = nothing_more w seed es start now new driving end
 
--- what drive promises
-pub record IsOver (w : Fixed Rest) (seed : ℕ) (es : List Event) (end : Stop) (start new : Outside) : Type 0 where
-  pub front : IsFrontOfSeed w seed es
-  pub why : IsWhy w seed es start.logs new.logs start.faults new.faults end
-  pub logs : AreDriven w es (failed_by end) start.logs new.logs
-  pub printed : IsPrinted w seed es start.taken new.taken end
-  pub later : start.faults ≤ new.faults
-
 pub is_over : (w : Fixed Rest) (seed : ℕ) (es : List Event) (why : Stop) (start now new : Outside) → IsDriving w seed es start now
     → Got now.logs new.logs no_group (λ l. tried_on (failed_by why) l (group_behind w l es)) → IsEnd w seed es why now new → now.faults ≤ new.faults → IsOver w seed es why start new
 is_over w seed es why start now new driving got end later = record {
@@ -127,6 +113,11 @@ is_over w seed es why start now new driving got end later = record {
   printed = is_printed w seed es why start now new driving end;
   later = omega (arith, driving.later, later);
 }
+
+-- there is no memory for what comes next
+pub over_for_memory : (w : Fixed Rest) (seed : ℕ) (es : List Event) (start now : Outside) → IsDriving w seed es start now → IsOver w seed es stop.Memory start now
+over_for_memory w seed es start now driving =
+    is_over w seed es stop.Memory start now now driving (got_nothing now.logs (still_open w seed es start now driving)) (Appends-nil now.taken) (omega arith)
 
 -- ---- the logs as they are handed over
 

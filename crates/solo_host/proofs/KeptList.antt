@@ -63,7 +63,7 @@ renewed seed core xs x old news new (Ok _) h at (inr ahead) renews =
     subst (λ (es : List Event). IsKeptFor seed (fixed_of core.tables) (state_at core es) new) (sym q) (renews ahead.front (subst (IsAt core) q at) foreseen ahead.kept)
 
 -- by seed 0 a list that leaves no allowed event out is enough
-covered : (seed : ℕ) (w : Fixed Rest) (s : Machine Rest) (list : List Event) → IsKeptFor seed w s list → Covers w s list
+pub covered : (seed : ℕ) (w : Fixed Rest) (s : Machine Rest) (list : List Event) → IsKeptFor seed w s list → Covers w s list
 covered seed w s list (inl enabled) = record { all = λ f. (enabled.all f).1; ascends = enabled.ascends }
 covered seed w s list (inr kept) = kept.1
 

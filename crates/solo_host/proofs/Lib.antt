@@ -3,6 +3,7 @@ pub mod GotGroups
 pub mod KeptList
 pub mod Picking
 pub mod Preparing
+pub mod Replying
 pub mod Trying
 pub mod Turning
 pub mod Words

@@ -29,7 +29,8 @@ use Rattle.solo_host.specs.Turns.{HasGoneOn, HasStopped, IsBehindWords}
 use Rattle.run_effects.specs.declared.stops.Stop.{Stop}
 use Rattle.run_effects.specs.declared.stops.Stop.TheVariants as stop
 use Rattle.solo_host.proofs.Preparing.{done_of_sync, given_up_of_sync, log_exists}
-use Rattle.solo_host.proofs.Driving.{IsDriving, IsOver, goes_further, is_over}
+use Rattle.solo_host.specs.Together.{IsDriving, IsOver}
+use Rattle.solo_host.proofs.Driving.{goes_further, is_over}
 use Rattle.run_effects.proofs.Driving.{driven_same}
 use Rattle.solo_host.proofs.GotGroups.{got_same}
 use Rattle.solo_host.proofs.Words.{drawn_on}
@@ -144,18 +145,43 @@ has_driven t seed core now es kept why start old new same driving ended =
     (subst (λ (ks : List Event). IsOver w seed ks why start new) (sym ended.same)
     (is_over w seed es why start old new (subst (λ (z : Tables). IsDriving (fixed_of z) seed es start old) (sym same) driving) ended.logs ended.end ended.later))
 
-fewer : (most old new : ℕ) → new ≡ old + 1 → new ≤ most → most - new < most - old
-fewer most old new is le = omega (arith, is, le)
+-- a turn's last event, or its end
+pub turned : (o : Option Stop) (t : Tables) (seed : ℕ) (core now : CoreState) (es kept : List Event) (start old new : Outside) → core.tables ≡ t → RunsOf (fixed_of t) → IsAt core es → IsDriving (fixed_of t) seed es start old
+    → MatchOption o (HasGoneOn seed core now es kept old new) (λ why. HasStopped seed core now es kept why old new)
+    → MatchOption o (IsDriving (fixed_of t) seed kept start new) (λ why. IsOver (fixed_of t) seed kept why start new)
+turned None t seed core now es kept start old new same runs at driving gone = stays_driving t seed core now es kept start old new same runs at driving gone
+turned (Some why) t seed core now es kept start old new same runs at driving ended = has_driven t seed core now es kept why start old new same driving ended
 
-pub fewer_left : (t : Tables) (seed : ℕ) (core now : CoreState) (old kept : List code.Event) (before after : Outside) → core.tables ≡ t → now.tables ≡ core.tables → RunsOf (fixed_of t)
-    → HasGoneOn seed core now (map event_meant old) (map event_meant kept) before after
+pub turned_at : (o : Option Stop) (seed : ℕ) (core now : CoreState) (es kept : List Event) (old new : Outside)
+    → MatchOption o (HasGoneOn seed core now es kept old new) (λ why. HasStopped seed core now es kept why old new) → IsAt now kept
+turned_at None seed core now es kept old new gone = gone.at
+turned_at (Some why) seed core now es kept old new ended = ended.at
+
+pub turned_more : (o : Option Stop) (seed : ℕ) (core now : CoreState) (es kept : List Event) (old new : Outside) → o ≡ None
+    → MatchOption o (HasGoneOn seed core now es kept old new) (λ why. HasStopped seed core now es kept why old new) → length es < length kept
+turned_more None seed core now es kept old new none gone =
+    let more : length kept ≡ length (es ++ gone.event ∷ []) = ap (λ (xs : List Event). length xs) gone.more in
+    let joined = length-append es (gone.event ∷ []) in
+    omega (arith, more, joined)
+turned_more (Some why) seed core now es kept old new none ended = absurd (cc none)
+
+-- of a core that keeps its text
+pub over_by : (t z : Tables) (seed : ℕ) (es kept : List Event) (why : Stop) (start old new : Outside) → t ≡ z → IsDriving (fixed_of z) seed es start old
+    → (IsDriving (fixed_of t) seed es start old → IsOver (fixed_of t) seed kept why start new) → IsOver (fixed_of z) seed kept why start new
+over_by t z seed es kept why start old new same driving goes =
+    subst (λ (u : Tables). IsOver (fixed_of u) seed kept why start new) same (goes (subst (λ (u : Tables). IsDriving (fixed_of u) seed es start old) (sym same) driving))
+
+pub driving_by : (t z : Tables) (seed : ℕ) (es kept : List Event) (start old new : Outside) → t ≡ z → IsDriving (fixed_of z) seed es start old
+    → (IsDriving (fixed_of t) seed es start old → IsDriving (fixed_of t) seed kept start new) → IsDriving (fixed_of z) seed kept start new
+driving_by t z seed es kept start old new same driving goes =
+    subst (λ (u : Tables). IsDriving (fixed_of u) seed kept start new) same (goes (subst (λ (u : Tables). IsDriving (fixed_of u) seed es start old) (sym same) driving))
+
+fewer : (most old new : ℕ) → old < new → new ≤ most → most - new < most - old
+fewer most old new more le = omega (arith, more, le)
+
+pub fewer_left : (t : Tables) (now : CoreState) (old kept : List code.Event) → now.tables ≡ t → RunsOf (fixed_of t) → IsAt now (map event_meant kept) → length old < length kept
     → most_events * length (fixed_of t).text.txs - length kept < most_events * length (fixed_of t).text.txs - length old
-fewer_left t seed core now old kept before after same still runs gone =
-    let run : IsRun (fixed_of t) (map event_meant kept) = subst (λ (z : Tables). IsRun (fixed_of z) (map event_meant kept)) (still ∙ same) gone.at.run in
+fewer_left t now old kept same runs at more =
+    let run : IsRun (fixed_of t) (map event_meant kept) = subst (λ (z : Tables). IsRun (fixed_of z) (map event_meant kept)) same at.run in
     let short : length (map event_meant kept) ≤ most_events * length (fixed_of t).text.txs = runs.end (map event_meant kept) run in
-    let more : length (map event_meant kept) ≡ length (map event_meant old ++ gone.event ∷ []) = ap (λ (es : List Event). length es) gone.more in
-    let joined = length-append (map event_meant old) (gone.event ∷ []) in
-    let many = length-map kept event_meant in
-    let had = length-map old event_meant in
-    let one : length kept ≡ length old + 1 = omega (arith, more, joined, many, had) in
-    fewer (most_events * length (fixed_of t).text.txs) (length old) (length kept) one (subst (λ n. n ≤ most_events * length (fixed_of t).text.txs) many short)
+    fewer (most_events * length (fixed_of t).text.txs) (length old) (length kept) more (subst (λ n. n ≤ most_events * length (fixed_of t).text.txs) (length-map kept event_meant) short)

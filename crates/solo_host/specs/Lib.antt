@@ -1,5 +1,6 @@
 pub mod Drives
 pub mod Outside
+pub mod Together
 pub mod Turns
 pub use Rattle.rand_core.specs as rand_core
 pub use Rattle.rand_pcg.specs as rand_pcg

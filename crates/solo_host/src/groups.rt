@@ -32,10 +32,7 @@ pub(crate) fn before_sync<D: LogDev>(
         (λ stop. (es : List machine.Event) → IsAt core.now es → IsNotSynced (fixed_of core.now.tables) es l stop logs.old.items logs.new.items) }
 {
     history_grows();
-    let Ok(pieces) = core.group(alloc, l) else {
-        return Err(Stop::Memory);
-    };
-    match append_pieces(alloc, &mut logs[l as usize], pieces.as_slice()) {
+    match append_pieces(alloc, &mut logs[l as usize], core.group(l)) {
         Ok(()) => Ok(()),
         Err(no) => Err(stop_of(no, l)),
     }

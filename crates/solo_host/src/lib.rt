@@ -6,11 +6,13 @@
 mod befores;
 mod drives;
 mod freshening;
+mod fronts;
 mod groups;
 mod keeping;
 mod nexts;
 mod picks;
 mod replies;
+mod together;
 mod tries;
 mod turns;
 mod waits;

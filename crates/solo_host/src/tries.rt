@@ -25,7 +25,7 @@ pub(crate) enum Tried {
 }
 
 /// Whether the event is allowed.
-fn is_allowed(core: &Core, e: Event) -> bool
+pub(crate) fn is_allowed(core: &Core, e: Event) -> bool
     ensures allowed { result ≡ true → IsAllowedAt core.now (event_meant e) }
     ensures refused { result ≡ false → IsRefusedAt core.now (event_meant e) }
 {

@@ -24,7 +24,7 @@ use snap_outside::{LogDev, Sink};
 use std::alloc::Global;
 
 /// Takes the event, which is allowed. `Memory` comes only of the events that add something, and leaves the core as it was.
-fn take_step(alloc: Global, core: &mut Core, e: Event) -> Result<(), Memory>
+pub(crate) fn take_step(alloc: Global, core: &mut Core, e: Event) -> Result<(), Memory>
     requires { (es : List machine.Event) × IsAt core.old es × IsAllowed (fixed_of core.old.tables) (event_meant e) (state_at core.old es) }
     ensures ok { OnOk result (HasTaken (event_meant e) core.old core.new) }
     ensures no { OnErr result (may_want (event_meant e) ≡ true) }

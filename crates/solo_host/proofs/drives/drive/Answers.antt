@@ -9,8 +9,9 @@ use Rattle.run_effects.specs.RunsOf.{RunsOf}
 use Rattle.solo_host.specs.Outside.{outside}
 use Rattle.solo_host.specs.Turns.{IsBehindWords, IsOneBehind}
 use Rattle.solo_host.proofs.KeptList.{first_behind}
-use Rattle.solo_host.proofs.Driving.{IsDriving, begins, still_open, still_of_format, still_low, are_open, are_of_format, are_near}
-use Rattle.solo_host.proofs.Turning.{stays_driving, has_driven, fewer_left}
+use Rattle.solo_host.specs.Together.{IsDriving}
+use Rattle.solo_host.proofs.Driving.{begins, still_open, still_of_format, still_low, are_open, are_of_format, are_near}
+use Rattle.solo_host.proofs.Turning.{driving_by, fewer_left, over_by}
 use Rattle.snap_outside.proofs.AtFault.{calls_join, no_call, surely}
 use Rattle.solo_host.proofs.drives.drive.Goals as goal
 
@@ -59,29 +60,45 @@ turn-requires-clause-low g c =
     still_low w c.args.seed es start old (subst (λ (t : Tables). RunsOf (fixed_of t)) c.tables.ensures.same c.runs_of.ensures) (subst (λ (t : Tables). IsRun (fixed_of t) es) c.turns.invariant.tables c.turns.invariant.at.run)
     (are_near c.args.logs.now.items c.requires.ends) c.turns.invariant.driving
 
+pub returns-in-Some-clause-front : goal.returns-in-Some-clause-front
+returns-in-Some-clause-front g c =
+    let start = outside c.args.logs.now.items (g.O.Sink.taken c.args.out.now) (g.O.Sink.faults c.args.out.now) in
+    let old = outside c.turns.logs.items (g.O.Sink.taken c.turns.out) (g.O.Sink.faults c.turns.out) in
+    let new = outside c.turn.new.logs.items (g.O.Sink.taken c.turn.new.out) (g.O.Sink.faults c.turn.new.out) in
+    (over_by c.turns.core.tables c.args.core.now.tables c.args.seed (map event_meant c.turns.kept.items) (map event_meant c.turn.new.kept.items) c.in-Some.stop start old new
+    c.turns.invariant.tables c.turns.invariant.driving (c.in-Some.ensures.goes start)).front
+
 pub returns-in-Some-clause-why : goal.returns-in-Some-clause-why
 returns-in-Some-clause-why g c =
     let start = outside c.args.logs.now.items (g.O.Sink.taken c.args.out.now) (g.O.Sink.faults c.args.out.now) in
     let old = outside c.turns.logs.items (g.O.Sink.taken c.turns.out) (g.O.Sink.faults c.turns.out) in
     let new = outside c.turn.new.logs.items (g.O.Sink.taken c.turn.new.out) (g.O.Sink.faults c.turn.new.out) in
-    (has_driven c.args.core.now.tables c.args.seed c.turns.core c.turn.new.core (map event_meant c.turns.kept.items) (map event_meant c.turn.new.kept.items) c.in-Some.stop start old new
-    c.turns.invariant.tables c.turns.invariant.driving c.in-Some.ensures.goes).why
+    (over_by c.turns.core.tables c.args.core.now.tables c.args.seed (map event_meant c.turns.kept.items) (map event_meant c.turn.new.kept.items) c.in-Some.stop start old new
+    c.turns.invariant.tables c.turns.invariant.driving (c.in-Some.ensures.goes start)).why
 
 pub returns-in-Some-clause-logs : goal.returns-in-Some-clause-logs
 returns-in-Some-clause-logs g c =
     let start = outside c.args.logs.now.items (g.O.Sink.taken c.args.out.now) (g.O.Sink.faults c.args.out.now) in
     let old = outside c.turns.logs.items (g.O.Sink.taken c.turns.out) (g.O.Sink.faults c.turns.out) in
     let new = outside c.turn.new.logs.items (g.O.Sink.taken c.turn.new.out) (g.O.Sink.faults c.turn.new.out) in
-    (has_driven c.args.core.now.tables c.args.seed c.turns.core c.turn.new.core (map event_meant c.turns.kept.items) (map event_meant c.turn.new.kept.items) c.in-Some.stop start old new
-    c.turns.invariant.tables c.turns.invariant.driving c.in-Some.ensures.goes).logs
+    (over_by c.turns.core.tables c.args.core.now.tables c.args.seed (map event_meant c.turns.kept.items) (map event_meant c.turn.new.kept.items) c.in-Some.stop start old new
+    c.turns.invariant.tables c.turns.invariant.driving (c.in-Some.ensures.goes start)).logs
 
 pub returns-in-Some-clause-printed : goal.returns-in-Some-clause-printed
 returns-in-Some-clause-printed g c =
     let start = outside c.args.logs.now.items (g.O.Sink.taken c.args.out.now) (g.O.Sink.faults c.args.out.now) in
     let old = outside c.turns.logs.items (g.O.Sink.taken c.turns.out) (g.O.Sink.faults c.turns.out) in
     let new = outside c.turn.new.logs.items (g.O.Sink.taken c.turn.new.out) (g.O.Sink.faults c.turn.new.out) in
-    (has_driven c.args.core.now.tables c.args.seed c.turns.core c.turn.new.core (map event_meant c.turns.kept.items) (map event_meant c.turn.new.kept.items) c.in-Some.stop start old new
-    c.turns.invariant.tables c.turns.invariant.driving c.in-Some.ensures.goes).printed
+    (over_by c.turns.core.tables c.args.core.now.tables c.args.seed (map event_meant c.turns.kept.items) (map event_meant c.turn.new.kept.items) c.in-Some.stop start old new
+    c.turns.invariant.tables c.turns.invariant.driving (c.in-Some.ensures.goes start)).printed
+
+pub returns-in-Some-clause-later : goal.returns-in-Some-clause-later
+returns-in-Some-clause-later g c =
+    let start = outside c.args.logs.now.items (g.O.Sink.taken c.args.out.now) (g.O.Sink.faults c.args.out.now) in
+    let old = outside c.turns.logs.items (g.O.Sink.taken c.turns.out) (g.O.Sink.faults c.turns.out) in
+    let new = outside c.turn.new.logs.items (g.O.Sink.taken c.turn.new.out) (g.O.Sink.faults c.turn.new.out) in
+    (over_by c.turns.core.tables c.args.core.now.tables c.args.seed (map event_meant c.turns.kept.items) (map event_meant c.turn.new.kept.items) c.in-Some.stop start old new
+    c.turns.invariant.tables c.turns.invariant.driving (c.in-Some.ensures.goes start)).later
 
 pub returns-in-Some-clause-once : goal.returns-in-Some-clause-once
 returns-in-Some-clause-once g c = calls_join _ _ _ _ _ _ tt c.turns.invariant.once (surely _ _ _ _ (λ no is. no (cc is)) c.in-Some.ensures.once)
@@ -92,19 +109,17 @@ turns-preserved g c =
     let old = outside c.turns.logs.items (g.O.Sink.taken c.turns.out) (g.O.Sink.faults c.turns.out) in
     let new = outside c.turn.new.logs.items (g.O.Sink.taken c.turn.new.out) (g.O.Sink.faults c.turn.new.out) in
     record {
-      at = c.in-None.ensures.goes.at;
+      at = c.in-None.ensures.at;
       tables = c.in-None.ensures.tables ∙ c.turns.invariant.tables;
       drawn = c.in-None.ensures.drawn refl;
       behind = subst (λ (t : Tables). IsOneBehind c.args.seed (fixed_of t) (map event_meant c.turn.new.kept.items) c.turn.new.list.events (map event_meant c.turn.new.news.items))
           c.turns.invariant.tables (c.in-None.ensures.behind refl);
-      driving = stays_driving c.args.core.now.tables c.args.seed c.turns.core c.turn.new.core (map event_meant c.turns.kept.items) (map event_meant c.turn.new.kept.items) start old new
-          c.turns.invariant.tables (subst (λ (t : Tables). RunsOf (fixed_of t)) c.tables.ensures.same c.runs_of.ensures) c.turns.invariant.at c.turns.invariant.driving c.in-None.ensures.goes;
+      driving = driving_by c.turns.core.tables c.args.core.now.tables c.args.seed (map event_meant c.turns.kept.items) (map event_meant c.turn.new.kept.items) start old new
+          c.turns.invariant.tables c.turns.invariant.driving (c.in-None.ensures.goes start);
       once = calls_join _ _ _ _ _ _ tt c.turns.invariant.once (surely _ _ _ _ (λ _ is. cc is) c.in-None.ensures.once);
     }
 
 pub turns-smaller : goal.turns-smaller
 turns-smaller g c =
-    let old = outside c.turns.logs.items (g.O.Sink.taken c.turns.out) (g.O.Sink.faults c.turns.out) in
-    let new = outside c.turn.new.logs.items (g.O.Sink.taken c.turn.new.out) (g.O.Sink.faults c.turn.new.out) in
-    fewer_left c.args.core.now.tables c.args.seed c.turns.core c.turn.new.core c.turns.kept.items c.turn.new.kept.items old new
-    c.turns.invariant.tables c.in-None.ensures.tables (subst (λ (t : Tables). RunsOf (fixed_of t)) c.tables.ensures.same c.runs_of.ensures) c.in-None.ensures.goes
+    fewer_left c.args.core.now.tables c.turn.new.core c.turns.kept.items c.turn.new.kept.items (c.in-None.ensures.tables ∙ c.turns.invariant.tables)
+    (subst (λ (t : Tables). RunsOf (fixed_of t)) c.tables.ensures.same c.runs_of.ensures) c.in-None.ensures.at (c.in-None.ensures.more refl)

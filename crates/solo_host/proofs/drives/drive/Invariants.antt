@@ -6,7 +6,7 @@ use Rattle.snap_core.specs.snap_hand.Tables.{fixed_of}
 use Rattle.snap_outside.specs.Causes.{EndsAtFault}
 use Rattle.solo_host.specs.Outside.{outside}
 use Rattle.solo_host.specs.Turns.{IsBehindWords, IsOneBehind}
-use Rattle.solo_host.proofs.Driving.{IsDriving}
+use Rattle.solo_host.specs.Together.{IsDriving}
 use Rattle.solo_host.proofs.drives.drive.Given as goal
 
 -- what was kept is a front of the schedule to which the core has come, and the outside got its groups and lines

@@ -52,7 +52,7 @@ returns-clause-goes g c seed picked =
     let old = outside c.args.logs.now.items (g.O.Sink.taken c.args.out.now) (g.O.Sink.faults c.args.out.now) in
     let new = outside c.before-2.new.logs.items (g.O.Sink.taken c.before-2.new.out) (g.O.Sink.faults c.before-2.new.out) in
     gone_on seed c.args.core.now c.take_step.new.core es (map event_meant c.keep.new.kept.items) (event_meant c.args.e) old new
-    (kept_more c.args.kept.now.items c.args.kept.now.items c.keep.new.kept.items c.args.e refl c.keep.ensures)
+    (kept_more c.args.kept.now.items c.args.kept.now.items c.keep.new.kept.items c.args.e refl c.keep.ensures.kept)
     picked (c.in-Ok-take_step.ensures.ok es c.requires.at).1 (c.in-Ok-before.ensures.outer es c.requires.at)
 
 pub returns-clause-behind : goal.returns-clause-behind
@@ -60,7 +60,7 @@ returns-clause-behind g c none seed list kept =
     let w = fixed_of c.args.core.now.tables in
     let es = map event_meant c.args.kept.now.items in
     one_behind seed w es (map event_meant c.keep.new.kept.items) list (map event_meant c.foresee.new.news.items) (event_meant c.args.e)
-    (kept_more c.args.kept.now.items c.args.kept.now.items c.keep.new.kept.items c.args.e refl c.keep.ensures) kept
+    (kept_more c.args.kept.now.items c.args.kept.now.items c.keep.new.kept.items c.args.e refl c.keep.ensures.kept) kept
     (c.in-Ok.ensures es c.requires.at (picked_allowed w c.requires.picked.0 es (event_meant c.args.e) c.requires.picked.1))
 
 pub returns-clause-once : goal.returns-clause-once

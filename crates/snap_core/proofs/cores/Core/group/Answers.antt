@@ -11,4 +11,4 @@ pub group-requires-clause-log : goal.group-requires-clause-log
 group-requires-clause-log c = c.self.invariant.whole (log c.args.l)
 
 pub returns : goal.returns
-returns c = group_at c.args.self.now c.self.inside.tables c.self.inside.hand c.self.view_is c.group.result c.args.l c.group.ensures
+returns c = group_at c.args.self.now c.self.inside.tables c.self.inside.hand c.self.view_is c.group.result.now c.args.l c.group.ensures

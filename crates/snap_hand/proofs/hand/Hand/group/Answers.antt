@@ -7,5 +7,5 @@ log-requires c = log_there c.args.self.now c.args.l c.requires.log c.requires.ex
 
 pub returns : goal.returns
 returns c =
-    group_told c.group.result c.log.result.now.log c.group.ensures.shows c.args.l
+    group_told c.group.result.now c.log.result.now.log c.group.ensures.shows c.args.l
     (λ s fits. fits.logs c.args.l _ c.log.ensures)
