@@ -16,6 +16,9 @@ use trace_text::print_event;
 /// How many lines go to the sink at once.
 const LINES: usize = 512;
 
+/// The bytes that there is room for at once for these lines.
+const ROOM: usize = 24 * LINES;
+
 /// Writes a line for each event, in their order, 512 lines at a time. `Fault`: the sink failed, and the lines of some events that
 /// come first are written, the last of them maybe cut. `Memory`: there was no memory, and whole lines of some events that come first
 /// are written. Where there is no event the sink gets no call.
@@ -52,7 +55,7 @@ fn write_lines<T: Sink>(alloc: Global, events: &[Event], trace: &mut T) -> Resul
 fn lines_of(alloc: Global, events: &[Event]) -> Result<String, Memory>
     ensures { IfOk result (λ s. string_bytes s ≡ trace_of events.now) }
 {
-    let mut text = String::new(alloc);
+    let mut text = String::with_capacity(alloc, ROOM)?;
     for event in events {
         print_event(&mut text, *event)?;
     }

@@ -5,8 +5,8 @@ ghost use Rattle.trace_text.specs.Lines.{event_line, IsEvent};
 use crate::names::text_of;
 use crate::parts::parts_of;
 use core_events::Event;
+use itoa::Buffer;
 use snap_base::Memory;
-use std::fmt::Write;
 
 /// Appends the line of an event, with the line feed that ends it. After `Memory` nothing is said of the text.
 pub fn print_event(text: &mut String, e: Event) -> Result<(), Memory>
@@ -15,10 +15,14 @@ pub fn print_event(text: &mut String, e: Event) -> Result<(), Memory>
     ensures types { IsEvent e }
 {
     let (name, n, second) = parts_of(e);
-    let name = text_of(name);
-    match second {
-        None => writeln!(text, "{name} {n}")?,
-        Some(a) => writeln!(text, "{name} {n} {a}")?,
+    let mut buffer = Buffer::new();
+    text.push_str(text_of(name))?;
+    text.push(' ')?;
+    text.push_str(buffer.format(n))?;
+    if let Some(a) = second {
+        text.push(' ')?;
+        text.push_str(buffer.format(a))?;
     }
+    text.push('\n')?;
     Ok(())
 }

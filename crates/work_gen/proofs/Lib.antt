@@ -5,3 +5,4 @@ pub mod Asked
 pub mod Ranges
 pub mod Tails
 pub mod Works
+pub mod NextWords

@@ -1,6 +1,6 @@
 //! What a seed draws.
 
-ghost use Rattle.std.specs.Prelude.{◌≡◌, ℕ, ◌*◌, ◌<◌, ◌≤◌, ◌^◌};
+ghost use Rattle.std.specs.Prelude.{◌≡◌, ℕ, ◌+◌, ◌*◌, ◌<◌, ◌≤◌, ◌^◌};
 ghost use Rattle.work_gen.specs.Generated.{word, method_of, other_than, drawn};
 
 use rand_core::utils::NextWord;
@@ -27,13 +27,18 @@ pub(crate) struct Drawn {
     pub(crate) is_act: bool,
 }
 
-/// A word of the seed.
-fn word_at(seed: u64, place: u64) -> u32
-    ensures { result ≡ word seed place }
+/// Five words of the seed, from this place on.
+fn words_at(seed: u64, first: u64) -> (u32, u32, u32, u32, u32)
+    ensures { result ≡ (word seed first, word seed (first + 1), word seed (first + 2), word seed (first + 3), word seed (first + 4)) }
 {
     let mut generator = Pcg32::new(seed, 1);
-    generator.advance(place);
-    generator.next_word()
+    generator.advance(first);
+    let first = generator.next_word();
+    let second = generator.next_word();
+    let third = generator.next_word();
+    let fourth = generator.next_word();
+    let fifth = generator.next_word();
+    (first, second, third, fourth, fifth)
 }
 
 /// The method of a number.
@@ -61,14 +66,14 @@ fn other_actor(actor: u16, number: u16) -> u16
 pub(crate) fn draw(seed: u64, place: u32) -> Drawn
     ensures { result ≡ drawn seed place }
 {
-    let first = 5 * place as u64;
-    let actor = (word_at(seed, first + 1) % 256) as u16;
-    let number = (word_at(seed, first + 2) % 255) as u16;
+    let (method, actor, number, amount, act) = words_at(seed, 5 * place as u64);
+    let actor = (actor % 256) as u16;
+    let number = (number % 255) as u16;
     Drawn {
-        method: method_at(word_at(seed, first) % 5),
+        method: method_at(method % 5),
         actor,
         other: other_actor(actor, number),
-        amount: (1 + word_at(seed, first + 3) % 50) as u16,
-        is_act: word_at(seed, first + 4) % 4 == 0,
+        amount: (1 + amount % 50) as u16,
+        is_act: act % 4 == 0,
     }
 }

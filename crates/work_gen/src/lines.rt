@@ -1,11 +1,12 @@
 //! The line of a transaction.
 
-ghost use Rattle.std.specs.Prelude.{◌≡◌, ◌++◌, IfOk, string_bytes};
-ghost use Rattle.work_gen.specs.Generated.{name, argument, uses, transaction_line};
+ghost use Rattle.std.specs.Prelude.{◌≡◌, [], ◌∷◌, ◌++◌, IfOk, codes, string_bytes};
+ghost use Rattle.std.specs.Fmt.{decimal};
+ghost use Rattle.work_gen.specs.Generated.{name, argument, uses, call, one_use, two_uses, transaction_line};
 
 use crate::draws::{Drawn, Method};
+use itoa::Buffer;
 use snap_base::Memory;
-use std::alloc::Global;
 
 /// The method's name.
 fn name(method: Method) -> &'static str
@@ -20,45 +21,107 @@ fn name(method: Method) -> &'static str
     }
 }
 
-/// The argument, with a blank in front.
-fn argument(alloc: Global, method: Method, other: u16, amount: u16) -> Result<String, Memory>
-    ensures { IfOk result (λ s. string_bytes s ≡ argument method other amount) }
+/// Appends a number.
+fn push_number(text: &mut String, number: u16) -> Result<(), Memory>
+    ensures { IfOk result (λ u. string_bytes text.new ≡ string_bytes text.old ++ decimal number) }
 {
-    match method {
-        Method::Balance => Ok(String::new(alloc)),
-        Method::Amalgamate => Ok(format!(in alloc; " {other}")?),
-        Method::Deposit | Method::Savings | Method::Check => Ok(format!(in alloc; " {amount}")?),
-    }
+    text.push_str(Buffer::new().format(number))?;
+    Ok(())
 }
 
-/// The declared actors, each with a blank in front.
-fn uses(alloc: Global, method: Method, actor: u16, other: u16) -> Result<String, Memory>
-    ensures { IfOk result (λ s. string_bytes s ≡ uses method actor other) }
+/// Appends the line of an actor, with its end.
+pub(crate) fn push_actor(text: &mut String, actor: u16) -> Result<(), Memory>
+    ensures { IfOk result (λ u. string_bytes text.new ≡ string_bytes text.old ++ (codes "actor " ++ (decimal actor ++ codes " 1000 1000\n"))) }
+{
+    text.push_str("actor ")?;
+    push_number(text, actor)?;
+    text.push_str(" 1000 1000\n")?;
+    Ok(())
+}
+
+/// Appends the argument, with a blank in front.
+fn push_argument(text: &mut String, method: Method, other: u16, amount: u16) -> Result<(), Memory>
+    ensures { IfOk result (λ u. string_bytes text.new ≡ string_bytes text.old ++ argument method other amount) }
+{
+    let number = match method {
+        Method::Balance => return Ok(()),
+        Method::Amalgamate => other,
+        Method::Deposit | Method::Savings | Method::Check => amount,
+    };
+    text.push(' ')?;
+    push_number(text, number)
+}
+
+/// Appends the call: the actor, the method's name and the argument, each with a blank in front.
+fn push_call(text: &mut String, drawn: Drawn) -> Result<(), Memory>
+    ensures { IfOk result (λ u. string_bytes text.new ≡ string_bytes text.old ++ call drawn) }
+{
+    text.push(' ')?;
+    push_number(text, drawn.actor)?;
+    text.push(' ')?;
+    text.push_str(name(drawn.method))?;
+    push_argument(text, drawn.method, drawn.other, drawn.amount)
+}
+
+/// Appends one access of an actor, with a blank in front.
+fn push_use(text: &mut String, actor: u16) -> Result<(), Memory>
+    ensures { IfOk result (λ u. string_bytes text.new ≡ string_bytes text.old ++ one_use actor) }
+{
+    text.push(' ')?;
+    push_number(text, actor)?;
+    text.push_str(":1")?;
+    Ok(())
+}
+
+/// Appends one access of each of two actors, each with a blank in front.
+fn push_two_uses(text: &mut String, first: u16, second: u16) -> Result<(), Memory>
+    ensures { IfOk result (λ u. string_bytes text.new ≡ string_bytes text.old ++ two_uses first second) }
+{
+    text.push(' ')?;
+    push_number(text, first)?;
+    text.push_str(":1 ")?;
+    push_number(text, second)?;
+    text.push_str(":1")?;
+    Ok(())
+}
+
+/// Appends the declared actors, each with a blank in front.
+fn push_uses(text: &mut String, method: Method, actor: u16, other: u16) -> Result<(), Memory>
+    ensures { IfOk result (λ u. string_bytes text.new ≡ string_bytes text.old ++ uses method actor other) }
 {
     match method {
         Method::Amalgamate => {
             if actor < other {
-                Ok(format!(in alloc; " {actor}:1 {other}:1")?)
+                push_two_uses(text, actor, other)
             } else {
-                Ok(format!(in alloc; " {other}:1 {actor}:1")?)
+                push_two_uses(text, other, actor)
             }
         }
-        Method::Balance | Method::Deposit | Method::Savings | Method::Check => {
-            Ok(format!(in alloc; " {actor}:1")?)
-        }
+        Method::Balance | Method::Deposit | Method::Savings | Method::Check => push_use(
+            text, actor,
+        ),
     }
 }
 
-/// The line of a transaction, without its end.
-pub(crate) fn line(alloc: Global, drawn: Drawn) -> Result<String, Memory>
-    ensures { IfOk result (λ s. string_bytes s ≡ transaction_line drawn) }
+/// Appends the line of a transaction, without its end.
+fn push_transaction(text: &mut String, drawn: Drawn) -> Result<(), Memory>
+    ensures { IfOk result (λ u. string_bytes text.new ≡ string_bytes text.old ++ transaction_line drawn) }
 {
-    let actor = drawn.actor;
-    let name = name(drawn.method);
-    let argument = argument(alloc, drawn.method, drawn.other, drawn.amount)?;
     if drawn.is_act {
-        return Ok(format!(in alloc; "act {actor} {name}{argument}")?);
+        text.push_str("act")?;
+        return push_call(text, drawn);
     }
-    let uses = uses(alloc, drawn.method, actor, drawn.other)?;
-    Ok(format!(in alloc; "pact {actor} {name}{argument} uses{uses}")?)
+    text.push_str("pact")?;
+    push_call(text, drawn)?;
+    text.push_str(" uses")?;
+    push_uses(text, drawn.method, drawn.actor, drawn.other)
+}
+
+/// Appends the line of a transaction, with its end.
+pub(crate) fn push_line(text: &mut String, drawn: Drawn) -> Result<(), Memory>
+    ensures { IfOk result (λ u. string_bytes text.new ≡ string_bytes text.old ++ (transaction_line drawn ++ 10 ∷ [])) }
+{
+    push_transaction(text, drawn)?;
+    text.push('\n')?;
+    Ok(())
 }

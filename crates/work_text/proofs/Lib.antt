@@ -4,6 +4,7 @@ pub mod TextLines
 pub mod Steps
 pub mod ActorLines
 pub mod Words
+pub mod WordCuts
 pub mod Programs
 pub mod Ends
 pub mod Whole

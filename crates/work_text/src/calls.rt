@@ -17,13 +17,11 @@ fn kind_of(word: &[u8]) -> Option<Kind>
     ensures found { IfSome result (λ k. word.now ≡ kind_word k) }
     ensures only { (k : kind.Kind) → word.now ≡ kind_word k → result ≡ Some k }
 {
-    if word == b"pact".as_slice() {
-        return Some(Kind::Pact);
+    match word {
+        b"pact" => Some(Kind::Pact),
+        b"act" => Some(Kind::Act),
+        _ => None,
     }
-    if word == b"act".as_slice() {
-        return Some(Kind::Act);
-    }
-    None
 }
 
 // The methods of a checked program are told apart by their names.

@@ -8,18 +8,30 @@ ghost use Rattle.work_text.specs.Parts.{AreNumbers};
 use decimal_words::{natural, signed};
 use std::alloc::{AllocError, Global};
 
+/// The words that there is room for at once; a longer line's room grows.
+const WORDS: usize = 12;
+
 /// The words of a line.
 pub(crate) fn words_of(alloc: Global, line: &[u8]) -> Result<Vec<&[u8]>, AllocError>
     ensures { IfOk result (λ v. map (λ word. word.now) v.items ≡ words line.now) }
 {
-    line.split(|b| *b == b' ').collect(alloc)
+    let mut words = Vec::with_capacity(alloc, WORDS)?;
+    let mut from = 0;
+    for at in 0..line.len() {
+        if line[at] == b' ' {
+            words.push(&line[from..at])?;
+            from = at + 1;
+        }
+    }
+    words.push(&line[from..])?;
+    Ok(words)
 }
 
 /// The numbers that words spell, and `None` where one of them spells none.
 pub(crate) fn numbers(alloc: Global, words: &[&[u8]]) -> Result<Option<Vec<i64>>, AllocError>
     ensures { IfOk result (λ read. MatchOption read ((values : List ℤ) → ¬ AreNumbers (map (λ word. word.now) words.now) values) (λ v. AreNumbers (map (λ word. word.now) words.now) v.items)) }
 {
-    let mut values = Vec::new(alloc);
+    let mut values = Vec::with_capacity(alloc, words.len())?;
     for word in words {
         let Some(value) = signed(word) else {
             return Ok(None);

@@ -68,7 +68,7 @@ fn uses_of(
 ) -> Result<Option<Vec<(ActorId, u8)>>, AllocError>
     ensures { IfOk result (λ read. MatchOption read ((uses : List (ActorId × ℕ)) → AllByRecursion (IsUse actors) uses → map (λ word. word.now) words.now ≢ map use_word uses) (λ v. (map (λ word. word.now) words.now ≡ map use_word v.items) × AllByRecursion (IsUse actors) v.items)) }
 {
-    let mut uses = Vec::new(alloc);
+    let mut uses = Vec::with_capacity(alloc, words.len())?;
     for word in words {
         let Some(declared) = use_of(actors, word) else {
             return Ok(None);

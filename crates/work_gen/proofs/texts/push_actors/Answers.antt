@@ -5,5 +5,5 @@ use Rattle.work_gen.proofs.texts.push_actors.Goals as goal
 
 pub loop-actor-preserved : goal.loop-actor-preserved
 loop-actor-preserved c =
-    let i = c.loop-actor.actor-counter in
-    c.in_ok-writeln.ensures.bytes ∙ ap (λ t. string_bytes c.loop-actor.text ++ t) (sym (whole_line i)) ∙ one_more (string_bytes c.args.text.now) (string_bytes c.loop-actor.text) actor_line i c.loop-actor.invariant
+    let i = c.loop-actor.actor in
+    c.in_ok-push_actor.ensures ∙ ap (λ t. string_bytes c.loop-actor.text ++ t) (sym (whole_line i)) ∙ one_more (string_bytes c.args.text.now) (string_bytes c.loop-actor.text) actor_line i c.loop-actor.invariant

@@ -5,4 +5,4 @@ use Rattle.work_gen.proofs.texts.push_actors.Given as goal
 
 -- the lines so far are appended
 abbrev pub invariant-loop-actor : goal.invariant-loop-actor
-invariant-loop-actor l = string_bytes l.text ≡ string_bytes l.fn.text ++ text_of (actor_lines l.actor-counter)
+invariant-loop-actor l = string_bytes l.text ≡ string_bytes l.fn.text ++ text_of (actor_lines l.actor)
