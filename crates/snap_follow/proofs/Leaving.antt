@@ -7,13 +7,13 @@ use Rattle.txn_records.specs.declared.records.Record.{Record}
 use Rattle.txn_records.specs.declared.records.Record.TheVariants.{BatchComplete, ActPrepare}
 use Rattle.txn_records.specs.declared.keys.Key.{Key}
 use Rattle.snap_recover.specs.Logs.{log_of}
-use Rattle.snap_recover.specs.Passes.{In}
-use Rattle.snap_recover.proofs.Homes.{Inserts, at_log, below_cases, empty_set}
+use Rattle.snap_recover.proofs.Homes.{Inserts, at_log, below_cases}
 use Rattle.snap_recover.proofs.Lists.{contains_none, contains_cases, contains_here, contains_append, contains_left, contains_right}
 use Rattle.snap_recover.proofs.Steps.{taken}
+use Rattle.snap_follow.proofs.NumberSets.{empty_set}
 use Rattle.snap_follow.specs.declared.commits.Commits.{Commits}
 use Rattle.snap_follow.specs.Followed.{Tells, HasTold, TellsAhead}
-use Rattle.snap_follow.specs.Passes.{IsLeftOut, IsNewcomer, RestsIn, HasBlocked, AddsLeaving, NotesLeaving, NotesBlocked, AreLeaving}
+use Rattle.snap_follow.specs.Passes.{In, IsLeftOut, IsNewcomer, RestsIn, HasBlocked, AddsLeaving, NotesLeaving, NotesBlocked, AreLeaving}
 
 -- ---- a record tells of one actor, and of one transaction
 

@@ -1,3 +1,4 @@
+mod NumberSets
 mod Alike
 mod AlikeTold
 mod AlikeLists

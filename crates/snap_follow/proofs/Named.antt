@@ -16,13 +16,14 @@ use Rattle.txn_records.specs.Records.{key}
 use Rattle.snap_recover.specs.declared.openings.Kept.{Kept}
 use Rattle.snap_recover.specs.Logs.{log_of, HasKey}
 use Rattle.snap_recover.specs.Opening.{commit_of}
-use Rattle.snap_recover.specs.Passes.{In, AddsKeyed}
-use Rattle.snap_recover.proofs.Homes.{adds_quiet, inserts, at_true, at_same, empty_set, has_more, has_last}
+use Rattle.snap_recover.specs.Passes.{AddsKeyed}
+use Rattle.snap_recover.proofs.Homes.{adds_quiet, has_more, has_last}
 use Rattle.snap_recover.proofs.Lists.{contains_none, contains_cases, contains_here, contains_append, contains_left, contains_right}
 use Rattle.snap_recover.proofs.OneOpening.{same_bid, same_tid}
 use Rattle.snap_recover.proofs.Steps.{taken}
+use Rattle.snap_follow.proofs.NumberSets.{inserts, at_true, at_same, empty_set}
 use Rattle.snap_follow.specs.declared.commits.Commits.{Commits}
-use Rattle.snap_follow.specs.Passes.{AddsCommit, Removes, IsInSet, IsOfCommit, size, IsHome, AddsBatches, AddsActs, HasAllCommits, HasMembers}
+use Rattle.snap_follow.specs.Passes.{In, AddsCommit, Removes, IsInSet, IsOfCommit, size, IsHome, AddsBatches, AddsActs, HasAllCommits, HasMembers}
 
 -- ---- what a set has
 

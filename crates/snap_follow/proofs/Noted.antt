@@ -6,11 +6,10 @@ use Rattle.std.specs.BTreeSet.{BTreeSet}
 use Rattle.std.specs.Ordering.{nat_cmp}
 use Rattle.txn_records.specs.declared.records.Record.{Record}
 use Rattle.txn_records.specs.declared.keys.Key.{Key}
-use Rattle.snap_recover.specs.Passes.{In}
 use Rattle.snap_recover.proofs.Homes.{Inserts}
 use Rattle.snap_follow.specs.declared.commits.Commits.{Commits}
 use Rattle.snap_follow.specs.Followed.{Tells}
-use Rattle.snap_follow.specs.Passes.{IsInSet, NotesLeaving, NotesBlocked}
+use Rattle.snap_follow.specs.Passes.{In, IsInSet, NotesLeaving, NotesBlocked}
 use Rattle.snap_follow.proofs.Leaving.{tells_one, quiet_leaving, quiet_blocked, pushed_leaving, inserted_blocked}
 
 -- what both passes gain by the record

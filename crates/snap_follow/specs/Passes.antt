@@ -1,5 +1,5 @@
 -- Only private contracts cite this; the rules are specs/Followed.antt and specs/Rounds.antt.
-use Rattle.std.specs.Prelude.{⊤, ◌≡◌, ◌≢◌, ◌↔◌, ◌<◌, ◌≤◌, ℕ, ◌+◌, ◌%◌, ◌⊎◌, Bool, true, false, List, filter, length, map, Contains}
+use Rattle.std.specs.Prelude.{⊤, IsTrue, ◌≡◌, ◌≢◌, ◌↔◌, ◌<◌, ◌≤◌, ℕ, ◌+◌, ◌%◌, ◌⊎◌, Bool, true, false, List, filter, length, map, Contains}
 use Rattle.std.specs.BTreeSet as bag
 use Rattle.std.specs.BTreeSet.{BTreeSet}
 use Rattle.std.specs.Ordering.{nat_cmp}
@@ -13,7 +13,7 @@ use Rattle.snap_recover.specs.declared.openings.Kept.{Kept}
 use Rattle.snap_recover.specs.declared.openings.Kept.TheVariants as kept
 use Rattle.snap_recover.specs.declared.refusals.RecoverNo.TheVariants as recovery
 use Rattle.snap_recover.specs.Opening.{commit_of}
-use Rattle.snap_recover.specs.Passes.{In, AddsKeyed}
+use Rattle.snap_recover.specs.Passes.{AddsKeyed}
 use Rattle.snap_recover.specs.Refusals.{IsLack, IsRefused}
 use Rattle.snap_follow.specs.declared.commits.Commits.{Commits}
 use Rattle.snap_follow.specs.declared.refusals.FollowNo.{FollowNo}
@@ -21,6 +21,10 @@ use Rattle.snap_follow.specs.declared.refusals.FollowNo.TheVariants.{Back, TwoGe
 use Rattle.snap_follow.specs.Followed.{HasCommit, Tells, HasTold, TellsAhead, StandsAhead}
 
 -- ---- sets of commits
+
+-- the set has the number
+abbrev pub In : BTreeSet ℕ → ℕ → Type 0
+In set n = IsTrue (bag.contains nat_cmp set n)
 
 -- the set has the commit with this key
 abbrev pub IsInSet : Commits → Key → Type 0

@@ -1,14 +1,11 @@
 -- That nothing is lacking, asked of one batch or ACT after the other in the order of their numbers.
 use Rattle.std.proofs.Common.{◌≡◌, ℕ, zero, suc, ◌+◌, ◌%◌, ◌<◌, ◌≤◌, inl, inr, Bool, true, ◌||◌, Option, None, Result, Ok, Err, MatchResult, List, [], ◌∷◌, ◌++◌, length, take, get_or, refl, sym, ap, subst, ◌∙◌, arith}
-use Rattle.std.proofs.lemmas.Bool.{cases_lt, or_right, or_cases}
+use Rattle.std.proofs.lemmas.Bool.{cases_lt}
 use Rattle.std.proofs.lemmas.List.{get_or-take, length-take, get_or_default}
 use Rattle.std.proofs.lemmas.Map.Keys.{below_from_sorted}
-use Rattle.std.specs.List.{AllByRecursion, Contains, list_any}
+use Rattle.std.specs.List.{AllByRecursion, Contains}
 use Rattle.std.specs.List.Sorted.{IsStrictlySortedBy}
-use Rattle.std.specs.declared.cmp.Ordering.{Ordering}
 use Rattle.std.specs.Ordering.{nat_cmp}
-use Rattle.std.specs.BTreeSet.{BTreeSet}
-use Rattle.std.specs.BTreeMap.{is_at}
 use Rattle.snap_base.specs.declared.ids.ActorId.{ActorId}
 use Rattle.snap_base.specs.declared.ids.Bid.{Bid}
 use Rattle.snap_base.proofs.Lists.{weaker}
@@ -22,7 +19,7 @@ use Rattle.snap_recover.specs.Logs.{HasKey, log_of}
 use Rattle.snap_recover.specs.Opening.{IsInfoOf, HasCompleted, IsActOf, HasPrepared}
 use Rattle.snap_recover.specs.Passes.{bid_at, tid_at, InPair, commit_key, part_key, info_key, HasCommitted, HasAllParts, IsLastPlaced, TellsActors, MemberWhole, MemberLacks, IsLackOf, IsFirstLackOfKind, IsFirstLackOf, AllWhole, IsAllWhole, HasIn}
 use Rattle.snap_recover.proofs.Lists.{all_contains, contains_here, contains_there}
-use Rattle.snap_recover.proofs.Homes.{at_log, at_true, at_same}
+use Rattle.snap_recover.proofs.Homes.{at_log}
 use Rattle.snap_recover.proofs.Placing.{placed_some}
 use Rattle.snap_recover.proofs.Steps.{all_step, all_end}
 
@@ -37,11 +34,11 @@ pub told_in_log : (kind : Kind) (logs : List (List Record)) (n i : ℕ) (rs : Li
     → TellsActors kind n rs actors → TellsActors kind n (log_of logs n) actors
 told_in_log kind logs n i rs actors l at e h = subst (λ (z : List Record). TellsActors kind n z actors) (sym (at_log logs n i rs l at e)) h
 
-abbrev pub FirstLacking : BTreeSet (ℕ × ℕ) → ℕ → List ActorId → ActorId → Type 0
+abbrev pub FirstLacking : List (ℕ × ℕ) → ℕ → List ActorId → ActorId → Type 0
 FirstLacking set n actors a =
     (front behind : List ActorId) × (actors ≡ front ++ a ∷ behind) × AllByRecursion (λ (b : ActorId). InPair set (n, b.0)) front × ¬ InPair set (n, a.0)
 
-pub lacks_part : (kind : Kind) (logs : List (List Record)) (n : ℕ) (actors : List ActorId) (set : BTreeSet (ℕ × ℕ)) (a : ActorId) → TellsActors kind n (log_of logs n) actors → HasAllParts kind logs set
+pub lacks_part : (kind : Kind) (logs : List (List Record)) (n : ℕ) (actors : List ActorId) (set : List (ℕ × ℕ)) (a : ActorId) → TellsActors kind n (log_of logs n) actors → HasAllParts kind logs set
     → FirstLacking set n actors a → MemberLacks kind logs n (part_key kind (n, a.0)) (a.0 % length logs)
 lacks_part kinds.Batch logs n actors set a (tids, info) has (front, behind, is, all, out) =
     inr (
@@ -50,10 +47,10 @@ lacks_part kinds.Batch logs n actors set a (tids, info) has (front, behind, is, 
       a,
       tids,
       subst (λ (z : List ActorId). IsInfoOf logs (bid_at n) z tids) is info,
-      weaker (λ (b : ActorId). InPair set (n, b.0)) (HasCompleted logs (bid_at n)) front (λ b h. (has (n, b.0)).0 h) all,
+      weaker (λ (b : ActorId). InPair set (n, b.0)) (HasCompleted logs (bid_at n)) front (λ b h. (has.all (n, b.0)).0 h) all,
       refl,
       refl,
-      λ h. out ((has (n, a.0)).1 h),
+      λ h. out ((has.all (n, a.0)).1 h),
     )
 lacks_part kinds.Act logs n actors set a (m, c, v, act) has (front, behind, is, all, out) = (
   front,
@@ -63,32 +60,20 @@ lacks_part kinds.Act logs n actors set a (m, c, v, act) has (front, behind, is, 
   c,
   v,
   subst (λ (z : List ActorId). IsActOf logs (tid_at n) m c v z) is act,
-  weaker (λ (b : ActorId). InPair set (n, b.0)) (HasPrepared logs (tid_at n)) front (λ b h. (has (n, b.0)).0 h) all,
+  weaker (λ (b : ActorId). InPair set (n, b.0)) (HasPrepared logs (tid_at n)) front (λ b h. (has.all (n, b.0)).0 h) all,
   refl,
   refl,
-  λ h. out ((has (n, a.0)).1 h),
+  λ h. out ((has.all (n, a.0)).1 h),
 )
 
-pub member_whole : (kind : Kind) (logs : List (List Record)) (n : ℕ) (actors : List ActorId) (set : BTreeSet (ℕ × ℕ)) → TellsActors kind n (log_of logs n) actors → HasAllParts kind logs set
+pub member_whole : (kind : Kind) (logs : List (List Record)) (n : ℕ) (actors : List ActorId) (set : List (ℕ × ℕ)) → TellsActors kind n (log_of logs n) actors → HasAllParts kind logs set
     → AllByRecursion (λ (b : ActorId). InPair set (n, b.0)) actors → MemberWhole kind logs n
 member_whole kinds.Batch logs n actors set (tids, info) has all =
-    (actors, tids, info, weaker (λ (b : ActorId). InPair set (n, b.0)) (HasCompleted logs (bid_at n)) actors (λ b h. (has (n, b.0)).0 h) all)
+    (actors, tids, info, weaker (λ (b : ActorId). InPair set (n, b.0)) (HasCompleted logs (bid_at n)) actors (λ b h. (has.all (n, b.0)).0 h) all)
 member_whole kinds.Act logs n actors set (m, c, v, act) has all =
-    (m, c, v, actors, act, weaker (λ (b : ActorId). InPair set (n, b.0)) (HasPrepared logs (tid_at n)) actors (λ b h. (has (n, b.0)).0 h) all)
+    (m, c, v, actors, act, weaker (λ (b : ActorId). InPair set (n, b.0)) (HasPrepared logs (tid_at n)) actors (λ b h. (has.all (n, b.0)).0 h) all)
 
--- ---- the keys of a set
-
-pub in_keys : {K : Type 0} (cmp : K → K → Ordering) → ((k : K) → is_at (cmp k) k ≡ true) → (xs : List K) (x : K) → Contains xs x → list_any (is_at (cmp x)) xs ≡ true
-in_keys cmp same [] x (k, l, e) = absurd (omega arith)
-in_keys cmp same (y ∷ ys) x (zero, l, e) = ap (λ (b : Bool). b || list_any (is_at (cmp x)) ys) (subst (λ (z : _). is_at (cmp x) z ≡ true) (sym e) (same x))
-in_keys cmp same (y ∷ ys) x (suc k, l, e) = or_right (is_at (cmp x) y) (list_any (is_at (cmp x)) ys) (in_keys cmp same ys x (k, omega arith, e))
-
-pub keys_in : {K : Type 0} (cmp : K → K → Ordering) → ((k q : K) → is_at (cmp k) q ≡ true → k ≡ q) → (xs : List K) (x : K) → list_any (is_at (cmp x)) xs ≡ true → Contains xs x
-keys_in cmp one [] x h = absurd (cc)
-keys_in cmp one (y ∷ ys) x h = elim (or_cases (is_at (cmp x) y) (list_any (is_at (cmp x)) ys) h) [
-  | inl e ↦ subst (λ (z : _). Contains (y ∷ ys) z) (sym (one x y e)) (contains_here y ys)
-  | inr e ↦ contains_there y x ys (keys_in cmp one ys x e)
-]
+-- ---- the numbers of those that are in
 
 -- the numbers are those of all that are in, ascending
 pub record AreNumbers (kind : Kind) (logs : List (List Record)) (numbers : List ℕ) : Type 0 where
@@ -96,12 +81,8 @@ pub record AreNumbers (kind : Kind) (logs : List (List Record)) (numbers : List 
   pub are_in : (n : ℕ) → Contains numbers n → HasKey (log_of logs n) (commit_key kind n)
   pub all : (n : ℕ) → HasKey (log_of logs n) (commit_key kind n) → Contains numbers n
 
-pub are_numbers : (kind : Kind) (logs : List (List Record)) (set : BTreeSet ℕ) (numbers : List ℕ) → numbers ≡ set.keys → IsStrictlySortedBy nat_cmp set.keys → HasCommitted kind logs set → AreNumbers kind logs numbers
-are_numbers kind logs set numbers e sorted has = record {
-  ascend = subst (IsStrictlySortedBy nat_cmp) (sym e) sorted;
-  are_in = λ n h. (has n).0 (in_keys nat_cmp at_same set.keys n (subst (λ (z : List ℕ). Contains z n) e h));
-  all = λ n h. subst (λ (z : List ℕ). Contains z n) (sym e) (keys_in nat_cmp at_true set.keys n ((has n).1 h));
-}
+pub are_numbers : (kind : Kind) (logs : List (List Record)) (numbers : List ℕ) → HasCommitted kind logs numbers → AreNumbers kind logs numbers
+are_numbers kind logs numbers has = record { ascend = has.ascend; are_in = λ n h. (has.all n).0 h; all = λ n h. (has.all n).1 h }
 
 all_of_contained : {X : Type 0} (P : X → Type 0) (xs : List X) → ((x : X) → Contains xs x → P x) → AllByRecursion P xs
 all_of_contained P [] f = tt

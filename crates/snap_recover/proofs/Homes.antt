@@ -1,14 +1,9 @@
--- Sets that a pass over each log fills.
+-- Lists that a pass over each log fills.
 use Rattle.std.proofs.Common.{◌≡◌, ◌≢◌, ℕ, ◌+◌, ◌%◌, ◌<◌, ◌≤◌, ◌⊎◌, inl, inr, Bool, true, false, cond, List, [], ◌∷◌, ◌++◌, length, map, take, get_or, refl, sym, ap, subst, ◌∙◌, arith, IsTrue, ◌↔◌}
 use Rattle.std.proofs.Math.Nat.{mod-lt}
 use Rattle.std.proofs.lemmas.Bool.{cases_lt}
-use Rattle.std.proofs.lemmas.Bool.Decides.{nat_tests}
 use Rattle.std.proofs.lemmas.List.{get_or_default}
-use Rattle.std.specs.List.{list_any}
-use Rattle.std.specs.Ordering.{nat_cmp}
-use Rattle.std.specs.BTreeSet as bag
-use Rattle.std.specs.BTreeSet.{BTreeSet}
-use Rattle.std.specs.BTreeMap.{is_at}
+use Rattle.std.specs.List.{Contains}
 use Rattle.snap_base.specs.declared.ids.Bid.{Bid}
 use Rattle.snap_base.specs.declared.ids.Tid.{Tid}
 use Rattle.txn_records.specs.declared.records.Record.{Record}
@@ -17,8 +12,8 @@ use Rattle.txn_records.specs.Records.{key}
 use Rattle.snap_recover.specs.declared.kinds.Kind.{Kind}
 use Rattle.snap_recover.specs.declared.kinds.Kind.TheVariants as kinds
 use Rattle.snap_recover.specs.Logs.{HasKey, log_of}
-use Rattle.snap_recover.specs.Passes.{AddsKeyed, In, InPair, pair_cmp, commit_key, part_key, bid_at, actor_at, tid_at}
-use Rattle.snap_recover.proofs.Lists.{contains_here, contains_none, contains_cases, contains_right}
+use Rattle.snap_recover.specs.Passes.{AddsKeyed, commit_key, part_key, bid_at, actor_at, tid_at}
+use Rattle.snap_recover.proofs.Lists.{contains_here, contains_none, contains_cases, contains_left, contains_right, contains_append}
 use Rattle.snap_recover.proofs.Growing.{has_left, has_right, has_cases}
 use Rattle.snap_recover.proofs.Steps.{taken}
 
@@ -116,37 +111,22 @@ pub through_end : {X : Type 0} (number : X → ℕ) (key_at : X → Key) (logs :
     → Through number key_at logs i New → (x : X) → New x ↔ HasKey (log_of logs (number x)) (key_at x)
 through_end number key_at logs i New some l h x = (λ n. ((h x).0 n).1, λ p. (h x).1 (let low = mod-lt (number x) some in omega (arith, low), p))
 
--- ---- insertions
+pub told_alike : {X : Type 0} {P : X → Type 0} (old new : List X) → ((x : X) → Contains new x ↔ Contains old x) → ((x : X) → Contains old x ↔ P x) → (x : X) → Contains new x ↔ P x
+told_alike old new same told x = (λ h. (told x).0 ((same x).0 h), λ h. (same x).1 ((told x).1 h))
 
-cond_true : (b t r : Bool) → r ≡ cond b true t → IsTrue r ↔ (IsTrue t ⊎ (b ≡ true))
-cond_true true t r e = (λ h. inr refl, λ h. e)
-cond_true false t r e = (λ h. inl (subst IsTrue e h), λ h. elim h [ inl i ↦ subst IsTrue (sym e) i | inr n ↦ absurd (cc) ])
+-- ---- what a list gets
 
-pub at_true : (k q : ℕ) → is_at (nat_cmp k) q ≡ true → k ≡ q
-at_true k q h = grind (arith, nat_tests)
-
-pub at_same : (k : ℕ) → is_at (nat_cmp k) k ≡ true
-at_same k = grind (arith, nat_tests)
-
-pub inserts : (k : ℕ) (old new : BTreeSet ℕ) → bag.Updates nat_cmp old new k true → Inserts k (In old) (In new)
-inserts k old new u y =
-    let c = cond_true (is_at (nat_cmp k) y) (bag.contains nat_cmp old y) (bag.contains nat_cmp new y) (u.0 y) in (
-      λ i. elim (c.0 i) [ inl o ↦ inl o | inr e ↦ inr (at_true k y e) ],
-      λ i. elim i [ inl o ↦ c.1 (inl o) | inr e ↦ c.1 (inr (subst (λ (z : ℕ). is_at (nat_cmp k) z ≡ true) e (at_same k))) ],
-    )
-
-pair_true : (k q : ℕ × ℕ) → is_at (pair_cmp k) q ≡ true → (k.0 ≡ q.0) × (k.1 ≡ q.1)
-pair_true k q h = grind (arith, nat_tests)
-
-pair_same : (k : ℕ × ℕ) → is_at (pair_cmp k) k ≡ true
-pair_same k = grind (arith, nat_tests)
-
-pub inserts_pair : (k : ℕ × ℕ) (old new : BTreeSet (ℕ × ℕ)) → bag.Updates pair_cmp old new k true → Inserts k (InPair old) (InPair new)
-inserts_pair k old new u y =
-    let c = cond_true (is_at (pair_cmp k) y) (bag.contains pair_cmp old y) (bag.contains pair_cmp new y) (u.0 y) in (
-      λ i. elim (c.0 i) [ inl o ↦ inl o | inr e ↦ inr (let p = pair_true k y e in λ i. (p.0 i, p.1 i)) ],
-      λ i. elim i [ inl o ↦ c.1 (inl o) | inr e ↦ c.1 (inr (subst (λ (z : ℕ × ℕ). is_at (pair_cmp k) z ≡ true) e (pair_same k))) ],
-    )
+pub inserts : {X : Type 0} (x : X) (old new : List X) → new ≡ old ++ x ∷ [] → Inserts x (Contains old) (Contains new)
+inserts x old new is y = (
+  λ h. elim (contains_append old (x ∷ []) y (subst (λ (z : List _). Contains z y) is h)) [
+    | inl o ↦ inl o
+    | inr m ↦ elim (contains_cases x y [] m) [ inl e ↦ inr e | inr n ↦ absurd (contains_none y n) ]
+  ],
+  λ h. subst (λ (z : List _). Contains z y) (sym is) (elim h [
+    | inl o ↦ contains_left old (x ∷ []) y o
+    | inr e ↦ contains_right old (x ∷ []) y (subst (λ (z : _). Contains (x ∷ []) z) e (contains_here x []))
+  ]),
+)
 
 -- ---- keys tell what they are of
 
@@ -164,12 +144,5 @@ parts_apart kinds.Act x y e =
     let actors : actor_at x.1 ≡ actor_at y.1 = cc in
     λ i. ((tids i).0, (actors i).0)
 
-pub empty_set : (set : BTreeSet ℕ) → set.keys ≡ [] → (n : ℕ) → ¬ In set n
-empty_set set e n h =
-    let bad : false ≡ true = subst (λ (z : List ℕ). IsTrue (list_any (is_at (nat_cmp n)) z)) e h in
-    absurd (cc)
-
-pub empty_pairs : (set : BTreeSet (ℕ × ℕ)) → set.keys ≡ [] → (x : ℕ × ℕ) → ¬ InPair set x
-empty_pairs set e x h =
-    let bad : false ≡ true = subst (λ (z : List (ℕ × ℕ)). IsTrue (list_any (is_at (pair_cmp x)) z)) e h in
-    absurd (cc)
+pub empty_list : {X : Type 0} (xs : List X) → xs ≡ [] → (x : X) → ¬ Contains xs x
+empty_list xs e x h = contains_none x (subst (λ (z : List _). Contains z x) e h)

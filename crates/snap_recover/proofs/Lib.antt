@@ -6,6 +6,7 @@ pub mod BegunLogs
 pub mod Greatest
 pub mod StatesOver
 pub mod Growing
+pub mod Searching
 pub mod Steps
 pub mod Homes
 pub mod Placing

@@ -4,7 +4,6 @@ use Rattle.std.proofs.Math.Nat.{mod-lt}
 use Rattle.std.proofs.lemmas.Bool.{cases_eq}
 use Rattle.std.proofs.lemmas.List.{get_or-set_same, get_or-set_other, length-set}
 use Rattle.std.specs.List.{AllByRecursion, AllZip, enumerate_from}
-use Rattle.std.specs.BTreeSet.{BTreeSet}
 use Rattle.snap_base.specs.declared.transactions.State.{State}
 use Rattle.snap_base.proofs.Lists.{all_front, all_back}
 use Rattle.txn_records.specs.declared.records.Record.{Record}
@@ -91,19 +90,19 @@ pub record StatesThrough (logs : List (List Record)) (i : ℕ) (first states : L
 pub states_begin : (logs : List (List Record)) (first : List State) → StatesThrough logs 0 first first
 states_begin logs first = record { long = refl; done = λ a d l h. absurd (omega arith); left = λ a d l h. refl }
 
-tells_counts : (logs : List (List Record)) (batches acts : BTreeSet ℕ) (a : ℕ) (r : Record) → HasCommitted kinds.Batch logs batches → HasCommitted kinds.Act logs acts
+tells_counts : (logs : List (List Record)) (batches acts : List ℕ) (a : ℕ) (r : Record) → HasCommitted kinds.Batch logs batches → HasCommitted kinds.Act logs acts
     → Agree (RecordTellsState (In batches) (In acts) a) (Counts logs a) r
 tells_counts logs batches acts a (Genesis c s) h g = (λ t. t, λ t. t)
 tells_counts logs batches acts a (BatchInfo b x t) h g = (λ t. t, λ t. t)
-tells_counts logs batches acts a (BatchComplete b x s) h g = (λ t. (t.0, (h b.0).0 t.1), λ t. (t.0, (h b.0).1 t.1))
+tells_counts logs batches acts a (BatchComplete b x s) h g = (λ t. (t.0, (h.all b.0).0 t.1), λ t. (t.0, (h.all b.0).1 t.1))
 tells_counts logs batches acts a (BatchCommit b) h g = (λ t. t, λ t. t)
-tells_counts logs batches acts a (ActPrepare u x s) h g = (λ t. (t.0, (g u.0).0 t.1), λ t. (t.0, (g u.0).1 t.1))
+tells_counts logs batches acts a (ActPrepare u x s) h g = (λ t. (t.0, (g.all u.0).0 t.1), λ t. (t.0, (g.all u.0).1 t.1))
 tells_counts logs batches acts a (ActCommit u m c x) h g = (λ t. t, λ t. t)
 tells_counts logs batches acts a (BatchDone b v) h g = (λ t. t, λ t. t)
 tells_counts logs batches acts a (ActDone u m c v x) h g = (λ t. t, λ t. t)
 tells_counts logs batches acts a (Checkpoint v x y z p q ss) h g = (λ t. t, λ t. t)
 
-pub states_through : (logs : List (List Record)) (i : ℕ) (rs : List Record) (batches acts : BTreeSet ℕ) (first old new : List State) → i < length logs → rs ≡ get_or logs i rs → HasCommitted kinds.Batch logs batches → HasCommitted kinds.Act logs acts
+pub states_through : (logs : List (List Record)) (i : ℕ) (rs : List Record) (batches acts : List ℕ) (first old new : List State) → i < length logs → rs ≡ get_or logs i rs → HasCommitted kinds.Batch logs batches → HasCommitted kinds.Act logs acts
     → Replays i (length logs) (In batches) (In acts) rs old new → StatesThrough logs i first old → StatesThrough logs (i + 1) first new
 states_through logs i rs batches acts first old new l at has_b has_a p h = record {
   long = p.long ∙ h.long;

@@ -5,14 +5,11 @@ use Rattle.std.proofs.lemmas.List.{take_all, map-append}
 use Rattle.std.proofs.lemmas.List.Elements.{All-from_recursion}
 use Rattle.std.proofs.lemmas.List.Kept.{AllPairs-cons}
 use Rattle.std.proofs.lemmas.Map.Keys.{sorted_head, sorted_tail}
-use Rattle.std.specs.List.{AllByRecursion, AllPairs, Contains, list_any}
+use Rattle.std.specs.List.{AllByRecursion, AllPairs, Contains}
 use Rattle.std.specs.List.Sorted.{IsStrictlySortedBy}
 use Rattle.std.specs.declared.cmp.Ordering.{Ordering}
 use Rattle.std.specs.declared.cmp.Ordering.TheVariants.{Less, Equal, Greater}
 use Rattle.std.specs.Ordering.{nat_cmp, ordering_then}
-use Rattle.std.specs.BTreeSet as bag
-use Rattle.std.specs.BTreeSet.{BTreeSet}
-use Rattle.std.specs.BTreeMap.{is_at}
 use Rattle.snap_base.specs.declared.ids.ActorId.{ActorId}
 use Rattle.snap_base.specs.declared.ids.Bid.{Bid}
 use Rattle.snap_base.specs.declared.ids.Tid.{Tid}
@@ -26,42 +23,17 @@ use Rattle.snap_recover.specs.declared.openings.Kept.TheVariants as kept
 use Rattle.snap_recover.specs.Opening.{IsIn, IsActIn, IsActOf, commit_of, IsKeptIn, ComesBefore, IsCommitted}
 use Rattle.snap_recover.specs.Passes.{bid_at, tid_at, Spot, spot_cmp, InSpots, spot_of, IsBatchSpot, IsActSpot, AddsSpots, IsSpotIn, HasSpots, IsKeptAt, IsAllWhole}
 use Rattle.snap_recover.proofs.Lists.{contains_here, contains_left, contains_right, contains_append, contains_cases, contains_none, contains_map, contains_unmap}
-use Rattle.snap_recover.proofs.Homes.{Inserts}
-use Rattle.snap_recover.proofs.Checking.{AreNumbers, in_keys, keys_in}
+use Rattle.snap_recover.proofs.Homes.{Inserts, empty_list}
+use Rattle.snap_recover.proofs.Checking.{AreNumbers}
 use Rattle.snap_recover.proofs.OneOpening.{one_act}
 use Rattle.snap_recover.proofs.Steps.{taken, mapped}
 
 -- ---- one spot more
 
-spot_true : (k q : Spot) → is_at (spot_cmp k) q ≡ true → (k.0 ≡ q.0) × (k.1 ≡ q.1) × (k.2 ≡ q.2) × (k.3 ≡ q.3)
-spot_true k q h = grind (arith, nat_tests)
-
-spot_one : (k q : Spot) → is_at (spot_cmp k) q ≡ true → k ≡ q
-spot_one k q h = let p = spot_true k q h in λ i. (p.0 i, p.1 i, p.2 i, p.3 i)
-
-spot_same : (k : Spot) → is_at (spot_cmp k) k ≡ true
-spot_same k = grind (arith, nat_tests)
-
-cond_true : (b t r : Bool) → r ≡ cond b true t → IsTrue r ↔ (IsTrue t ⊎ (b ≡ true))
-cond_true true t r e = (λ h. inr refl, λ h. e)
-cond_true false t r e = (λ h. inl (subst IsTrue e h), λ h. elim h [ inl i ↦ subst IsTrue (sym e) i | inr n ↦ absurd (cc) ])
-
-pub inserts_spot : (k : Spot) (old new : BTreeSet Spot) → bag.Updates spot_cmp old new k true → Inserts k (InSpots old) (InSpots new)
-inserts_spot k old new u y =
-    let c = cond_true (is_at (spot_cmp k) y) (bag.contains spot_cmp old y) (bag.contains spot_cmp new y) (u.0 y) in (
-      λ i. elim (c.0 i) [ inl o ↦ inl o | inr e ↦ inr (spot_one k y e) ],
-      λ i. elim i [ inl o ↦ c.1 (inl o) | inr e ↦ c.1 (inr (subst (λ (z : Spot). is_at (spot_cmp k) z ≡ true) e (spot_same k))) ],
-    )
-
-pub no_spots : (set : BTreeSet Spot) → set.keys ≡ [] → (x : Spot) → ¬ InSpots set x
-no_spots set e x h =
-    let bad : false ≡ true = subst (λ (z : List Spot). IsTrue (list_any (is_at (spot_cmp x)) z)) e h in
-    absurd (cc)
-
-pub spots_none : (IsSpot : ℕ → Spot → Type 0) (old : BTreeSet Spot) → AddsSpots IsSpot [] old old
+pub spots_none : (IsSpot : ℕ → Spot → Type 0) (old : List Spot) → AddsSpots IsSpot [] old old
 spots_none IsSpot old x = (λ i. inl i, λ h. elim h [ inl i ↦ i | inr p ↦ absurd (contains_none p.0 p.1) ])
 
-pub spots_step : (IsSpot : ℕ → Spot → Type 0) (numbers : List ℕ) (i n : ℕ) (x : Spot) (old mid new : BTreeSet Spot) → i < length numbers → n ≡ get_or numbers i n → IsSpot n x → ((y : Spot) → IsSpot n y → x ≡ y)
+pub spots_step : (IsSpot : ℕ → Spot → Type 0) (numbers : List ℕ) (i n : ℕ) (x : Spot) (old mid new : List Spot) → i < length numbers → n ≡ get_or numbers i n → IsSpot n x → ((y : Spot) → IsSpot n y → x ≡ y)
     → Inserts x (InSpots mid) (InSpots new) → AddsSpots IsSpot (take i numbers) old mid → AddsSpots IsSpot (take (i + 1) numbers) old new
 spots_step IsSpot numbers i n x old mid new l at is one ins adds =
     subst (λ (z : List ℕ). AddsSpots IsSpot z old new) (sym (taken numbers i n l at))
@@ -88,11 +60,11 @@ act_spot_one logs n x y (m, c, v, a, p, e) (m', c', v', a', p', e') =
     let between : (m.0, 1, c, n) ≡ (m'.0, 1, c', n) = λ i. ((same.0 i).0, 1, same.1 i, n) in
     e ∙ between ∙ sym e'
 
-pub spots_end : (logs : List (List Record)) (bids tids : List ℕ) (old mid new : BTreeSet Spot) → AreNumbers kinds.Batch logs bids → AreNumbers kinds.Act logs tids → old.keys ≡ []
-    → AddsSpots IsBatchSpot bids old mid → AddsSpots (IsActSpot logs) tids mid new → HasSpots logs new
+pub spots_end : (logs : List (List Record)) (bids tids : List ℕ) (old mid new : List Spot) → AreNumbers kinds.Batch logs bids → AreNumbers kinds.Act logs tids → old ≡ []
+    → AddsSpots IsBatchSpot bids old mid → AddsSpots (IsActSpot logs) tids mid new → (x : Spot) → InSpots new x ↔ IsSpotIn logs x
 spots_end logs bids tids old mid new are_b are_a none batches acts x = (
   λ h. elim ((acts x).0 h) [
-    | inl m ↦ elim ((batches x).0 m) [ inl o ↦ absurd (no_spots old none x o) | inr p ↦ inl (p.0, are_b.are_in p.0 p.1, p.2) ]
+    | inl m ↦ elim ((batches x).0 m) [ inl o ↦ absurd (empty_list old none x o) | inr p ↦ inl (p.0, are_b.are_in p.0 p.1, p.2) ]
     | inr p ↦ inr (p.0, are_a.are_in p.0 p.1, p.2)
   ],
   λ h. elim h [
@@ -193,12 +165,8 @@ pub record AreSpots (logs : List (List Record)) (spots : List Spot) : Type 0 whe
   pub are_in : (x : Spot) → Contains spots x → IsSpotIn logs x
   pub all : (x : Spot) → IsSpotIn logs x → Contains spots x
 
-pub are_spots : (logs : List (List Record)) (set : BTreeSet Spot) (spots : List Spot) → spots ≡ set.keys → IsStrictlySortedBy spot_cmp set.keys → HasSpots logs set → AreSpots logs spots
-are_spots logs set spots e sorted has = record {
-  ascend = subst (IsStrictlySortedBy spot_cmp) (sym e) sorted;
-  are_in = λ x h. (has x).0 (in_keys spot_cmp spot_same set.keys x (subst (λ (z : List Spot). Contains z x) e h));
-  all = λ x h. subst (λ (z : List Spot). Contains z x) (sym e) (keys_in spot_cmp spot_one set.keys x ((has x).1 h));
-}
+pub are_spots : (logs : List (List Record)) (spots : List Spot) → HasSpots logs spots → AreSpots logs spots
+are_spots logs spots has = record { ascend = has.ascend; are_in = λ x h. (has.all x).0 h; all = λ x h. (has.all x).1 h }
 
 pub record KeptThrough (logs : List (List Record)) (spots : List Spot) (i : ℕ) (ks : List Kept) : Type 0 where
   pub are : map spot_of ks ≡ take i spots

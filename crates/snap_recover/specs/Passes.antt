@@ -1,13 +1,10 @@
 -- Only private contracts cite this; the rule is specs/Opening.antt.
 -- What a pass over one log gives. The log is number `log` of `logs`.
-use Rattle.std.specs.Prelude.{◌≡◌, ◌≢◌, ℕ, ℤ, ◌%◌, ◌<◌, ◌⊎◌, Option, Some, None, List, [], ◌∷◌, ◌++◌, length, slice_index_or, Contains, IsTrue, ◌↔◌, ⊤}
+use Rattle.std.specs.Prelude.{◌≡◌, ◌≢◌, ℕ, ℤ, ◌%◌, ◌<◌, ◌⊎◌, Option, Some, None, List, [], ◌∷◌, ◌++◌, length, slice_index_or, Contains, IsTrue, ◌↔◌, cond, ◌==◌, ⊤}
 use Rattle.std.specs.List.{AllByRecursion}
 use Rattle.std.specs.declared.cmp.Ordering.{Ordering}
 use Rattle.std.specs.Ordering.{nat_cmp, ordering_then}
-use Rattle.std.specs.BTreeSet as bag
-use Rattle.std.specs.BTreeSet.{BTreeSet}
-use Rattle.std.specs.BTreeMap as tree
-use Rattle.std.specs.BTreeMap.{BTreeMap}
+use Rattle.std.specs.List.Sorted.{IsStrictlySortedBy, IsNonDecreasingBy}
 use Rattle.snap_base.specs.declared.ids.ActorId.{ActorId}
 use Rattle.snap_base.specs.declared.ids.Bid.{Bid}
 use Rattle.snap_base.specs.declared.ids.Tid.{Tid}
@@ -36,16 +33,25 @@ actor_at n = record { 0 = n }
 abbrev pub tid_at : ℕ → Tid
 tid_at n = record { 0 = n }
 
--- the set has the number
-abbrev pub In : BTreeSet ℕ → ℕ → Type 0
-In set n = IsTrue (bag.contains nat_cmp set n)
+-- the list has the number
+abbrev pub In : List ℕ → ℕ → Type 0
+In numbers n = Contains numbers n
 
 abbrev pub pair_cmp : ℕ × ℕ → ℕ × ℕ → Ordering
 pair_cmp x y = ordering_then (nat_cmp x.0 y.0) (nat_cmp x.1 y.1)
 
--- the set has the batch, or the ACT, with the actor
-abbrev pub InPair : BTreeSet (ℕ × ℕ) → ℕ × ℕ → Type 0
-InPair set x = IsTrue (bag.contains pair_cmp set x)
+-- the list has the batch, or the ACT, with the actor
+abbrev pub InPair : List (ℕ × ℕ) → ℕ × ℕ → Type 0
+InPair pairs x = Contains pairs x
+
+-- the place with this number, in the last pair that has the number
+abbrev pub place_in : ℕ × ℕ → ℕ → Option ℕ → Option ℕ
+place_in x n (Some place) = Some place
+place_in x n None = cond (x.0 == n) (Some x.1) None
+
+abbrev pub last_at : List (ℕ × ℕ) → ℕ → Option ℕ
+last_at [] n = None
+last_at (x ∷ xs) n = place_in x n (last_at xs n)
 
 -- ---- keys by numbers
 
@@ -69,11 +75,11 @@ abbrev pub AddsKeyed : {X : Type 0} → (X → Type 0) → (X → Key) → List 
 AddsKeyed {X} AtHome key_at rs Old New = (x : X) → New x ↔ (Old x ⊎ (AtHome x × HasKey rs (key_at x)))
 
 -- the numbers of the batches, or the ACTs, whose commits stand in their log are added
-abbrev pub AddsCommits : Kind → ℕ → ℕ → List Record → BTreeSet ℕ → BTreeSet ℕ → Type 0
+abbrev pub AddsCommits : Kind → ℕ → ℕ → List Record → List ℕ → List ℕ → Type 0
 AddsCommits kind log logs rs old new = AddsKeyed (λ n. n % logs ≡ log) (commit_key kind) rs (In old) (In new)
 
 -- the parts that stand in their actor's log are added
-abbrev pub AddsParts : Kind → ℕ → ℕ → List Record → BTreeSet (ℕ × ℕ) → BTreeSet (ℕ × ℕ) → Type 0
+abbrev pub AddsParts : Kind → ℕ → ℕ → List Record → List (ℕ × ℕ) → List (ℕ × ℕ) → Type 0
 AddsParts kind log logs rs old new = AddsKeyed (λ (x : ℕ × ℕ). x.1 % logs ≡ log) (part_key kind) rs (InPair old) (InPair new)
 
 -- the place of the last record with the key
@@ -93,30 +99,43 @@ abbrev pub IsPlacedBy : Key → ℕ → Record → Option ℕ → Option ℕ →
 IsPlacedBy k at r old new = ((key r ≡ k) × (new ≡ Some at)) ⊎ ((key r ≢ k) × (new ≡ old))
 
 -- the place of the record is added under the number of its key, where it has one and stands in its log
-abbrev pub AddsInfo : (ℕ → Key) → ℕ → ℕ → ℕ → Record → BTreeMap ℕ ℕ → BTreeMap ℕ ℕ → Type 0
+abbrev pub AddsInfo : (ℕ → Key) → ℕ → ℕ → ℕ → Record → List (ℕ × ℕ) → List (ℕ × ℕ) → Type 0
 AddsInfo key_at log logs at r old new = (n : ℕ) →
-    ((n % logs ≡ log → IsPlacedBy (key_at n) at r (tree.get nat_cmp old n) (tree.get nat_cmp new n))
-    × (n % logs ≢ log → tree.get nat_cmp new n ≡ tree.get nat_cmp old n))
+    ((n % logs ≡ log → IsPlacedBy (key_at n) at r (last_at old n) (last_at new n))
+    × (n % logs ≢ log → last_at new n ≡ last_at old n))
 
 -- the places of the records with these keys that stand in their log are added
-abbrev pub AddsInfos : (ℕ → Key) → ℕ → ℕ → List Record → BTreeMap ℕ ℕ → BTreeMap ℕ ℕ → Type 0
+abbrev pub AddsInfos : (ℕ → Key) → ℕ → ℕ → List Record → List (ℕ × ℕ) → List (ℕ × ℕ) → Type 0
 AddsInfos key_at log logs rs old new = (n : ℕ) →
-    ((n % logs ≡ log → IsLastPlaced (key_at n) rs (tree.get nat_cmp old n) (tree.get nat_cmp new n))
-    × (n % logs ≢ log → tree.get nat_cmp new n ≡ tree.get nat_cmp old n))
+    ((n % logs ≡ log → IsLastPlaced (key_at n) rs (last_at old n) (last_at new n))
+    × (n % logs ≢ log → last_at new n ≡ last_at old n))
 
 -- ---- over all logs
 
--- the set has the numbers of the batches, or the ACTs, that are in
-abbrev pub HasCommitted : Kind → List (List Record) → BTreeSet ℕ → Type 0
-HasCommitted kind logs set = (n : ℕ) → In set n ↔ HasKey (log_of logs n) (commit_key kind n)
+-- the list has the numbers of the batches, or the ACTs, that are in
+abbrev pub TellsCommitted : Kind → List (List Record) → List ℕ → Type 0
+TellsCommitted kind logs numbers = (n : ℕ) → In numbers n ↔ HasKey (log_of logs n) (commit_key kind n)
 
--- the set has the parts of batches, or ACTs, that stand in their actor's log
-abbrev pub HasAllParts : Kind → List (List Record) → BTreeSet (ℕ × ℕ) → Type 0
-HasAllParts kind logs set = (x : ℕ × ℕ) → InPair set x ↔ HasKey (log_of logs x.1) (part_key kind x)
+-- the list has the parts of batches, or ACTs, that stand in their actor's log
+abbrev pub TellsParts : Kind → List (List Record) → List (ℕ × ℕ) → Type 0
+TellsParts kind logs pairs = (x : ℕ × ℕ) → InPair pairs x ↔ HasKey (log_of logs x.1) (part_key kind x)
 
--- the map has the place of the last record with each key in its log
-abbrev pub HasInfos : (ℕ → Key) → List (List Record) → BTreeMap ℕ ℕ → Type 0
-HasInfos key_at logs places = (n : ℕ) → IsLastPlaced (key_at n) (log_of logs n) None (tree.get nat_cmp places n)
+-- the list has the place of the last record with each key in its log
+abbrev pub TellsInfos : (ℕ → Key) → List (List Record) → List (ℕ × ℕ) → Type 0
+TellsInfos key_at logs places = (n : ℕ) → IsLastPlaced (key_at n) (log_of logs n) None (last_at places n)
+
+-- the same in order
+pub record HasCommitted (kind : Kind) (logs : List (List Record)) (numbers : List ℕ) : Type 0 where
+  pub ascend : IsStrictlySortedBy nat_cmp numbers
+  pub all : TellsCommitted kind logs numbers
+
+pub record HasAllParts (kind : Kind) (logs : List (List Record)) (pairs : List (ℕ × ℕ)) : Type 0 where
+  pub ascend : IsStrictlySortedBy pair_cmp pairs
+  pub all : TellsParts kind logs pairs
+
+pub record HasInfos (key_at : ℕ → Key) (logs : List (List Record)) (places : List (ℕ × ℕ)) : Type 0 where
+  pub ascend : IsNonDecreasingBy (λ (x : ℕ × ℕ). x.0) places
+  pub all : TellsInfos key_at logs places
 
 -- ---- states
 
@@ -246,8 +265,8 @@ spot_cmp x y = ordering_then (ordering_then (ordering_then (nat_cmp x.0 y.0) (na
 abbrev pub HasIn : Kind → List (List Record) → List ℕ → Type 0
 HasIn kind logs numbers = AllByRecursion (λ n. HasKey (log_of logs n) (commit_key kind n)) numbers
 
-abbrev pub InSpots : BTreeSet Spot → Spot → Type 0
-InSpots set x = IsTrue (bag.contains spot_cmp set x)
+abbrev pub InSpots : List Spot → Spot → Type 0
+InSpots spots x = Contains spots x
 
 -- where something kept stands
 abbrev pub spot_of : Kept → Spot
@@ -264,7 +283,7 @@ IsActSpot logs n x =
     × IsActOf logs (tid_at n) m c value actors × (x ≡ (m.0, 1, c, n))
 
 -- the spots of these numbers are added
-abbrev pub AddsSpots : (ℕ → Spot → Type 0) → List ℕ → BTreeSet Spot → BTreeSet Spot → Type 0
+abbrev pub AddsSpots : (ℕ → Spot → Type 0) → List ℕ → List Spot → List Spot → Type 0
 AddsSpots IsSpot numbers old new = (x : Spot) → InSpots new x ↔ (InSpots old x ⊎ ((n : ℕ) × Contains numbers n × IsSpot n x))
 
 -- the spot of a batch or an ACT that is in
@@ -273,9 +292,10 @@ IsSpotIn logs x =
     ((n : ℕ) × IsIn logs (bid_at n) × IsBatchSpot n x)
     ⊎ ((n : ℕ) × IsActIn logs (tid_at n) × IsActSpot logs n x)
 
--- the set has the spots of all that is in
-abbrev pub HasSpots : List (List Record) → BTreeSet Spot → Type 0
-HasSpots logs set = (x : Spot) → InSpots set x ↔ IsSpotIn logs x
+-- the spots of all that is in, in their order
+pub record HasSpots (logs : List (List Record)) (spots : List Spot) : Type 0 where
+  pub ascend : IsStrictlySortedBy spot_cmp spots
+  pub all : (x : Spot) → InSpots spots x ↔ IsSpotIn logs x
 
 -- what is kept at the spot
 pub record IsKeptAt (logs : List (List Record)) (x : Spot) (k : Kept) : Type 0 where

@@ -2,12 +2,12 @@
 ghost use Rattle.std.specs.Prelude.{◌≡◌, ◌≢◌, ℕ, ◌+◌, ◌%◌, ◌<◌, [], ◌∷◌, length, MatchOption, OnOk, IfOk};
 ghost use Rattle.txn_records.specs.Records.{key};
 ghost use Rattle.snap_recover.specs.declared.kinds.Kind.TheVariants as kinds;
-ghost use Rattle.snap_recover.specs.Passes.{commit_key, part_key, info_key, AddsCommits, AddsParts, AddsInfo, AddsInfos, HasCommitted, HasAllParts, HasInfos};
+ghost use Rattle.snap_recover.specs.Passes.{commit_key, part_key, info_key, AddsCommits, AddsParts, AddsInfo, AddsInfos, TellsCommitted, TellsParts, TellsInfos, HasCommitted, HasAllParts, HasInfos};
 
 use crate::kinds::Kind;
+use crate::ordered::{settle, settle_places};
 use snap_base::{Memory, Sequence};
 use std::alloc::Global;
-use std::collections::{BTreeMap, BTreeSet};
 use txn_records::Record;
 
 /// What is asked of the records of one kind, by their batches or their undeclared transactions. A record counts
@@ -15,28 +15,42 @@ use txn_records::Record;
 #[derive(Drop)]
 pub(crate) struct Index {
     /// The numbers of those that are in.
-    pub committed: BTreeSet<u64>,
+    pub committed: Vec<u64>,
     /// Which actors have done their parts of which of them: pairs of one of them and an actor.
-    pub parts: BTreeSet<(u64, u16)>,
-    /// Where in its log the last record stands that tells the actors of each.
-    pub infos: BTreeMap<u64, usize>,
+    pub parts: Vec<(u64, u16)>,
+    /// The number of each with a place in its log of a record that tells its actors. Of one number the last counts.
+    pub infos: Vec<(u64, usize)>,
 }
 
-/// The index of all logs, by one pass over each.
+/// The index of all logs, in order.
 pub(crate) fn index_of(
     alloc: Global,
     kind: Kind,
     logs: &[Sequence<Record>],
 ) -> Result<Index, Memory>
     requires some { 0 < length logs.now }
-    ensures committed { IfOk result (λ index. HasCommitted kind logs.now index.committed) }
-    ensures parts { IfOk result (λ index. HasAllParts kind logs.now index.parts) }
-    ensures infos { IfOk result (λ index. HasInfos (info_key kind) logs.now index.infos) }
+    ensures committed { IfOk result (λ index. HasCommitted kind logs.now index.committed.items) }
+    ensures parts { IfOk result (λ index. HasAllParts kind logs.now index.parts.items) }
+    ensures infos { IfOk result (λ index. HasInfos (info_key kind) logs.now index.infos.items) }
+{
+    let mut index = gathered(alloc, kind, logs)?;
+    settle(&mut index.committed);
+    settle(&mut index.parts);
+    settle_places(&mut index.infos)?;
+    Ok(index)
+}
+
+/// What the index of all logs has, by one pass over each.
+fn gathered(alloc: Global, kind: Kind, logs: &[Sequence<Record>]) -> Result<Index, Memory>
+    requires some { 0 < length logs.now }
+    ensures committed { IfOk result (λ index. TellsCommitted kind logs.now index.committed.items) }
+    ensures parts { IfOk result (λ index. TellsParts kind logs.now index.parts.items) }
+    ensures infos { IfOk result (λ index. TellsInfos (info_key kind) logs.now index.infos.items) }
 {
     let mut index = Index {
-        committed: BTreeSet::new(alloc),
-        parts: BTreeSet::new(alloc),
-        infos: BTreeMap::new(alloc),
+        committed: Vec::new(alloc),
+        parts: Vec::new(alloc),
+        infos: Vec::new(alloc),
     };
     let count = logs.len() as u64;
     for i in 0..logs.len() {
@@ -48,9 +62,9 @@ pub(crate) fn index_of(
 /// Adds the records of this log, number `log` of `logs`.
 fn add_log(index: &mut Index, kind: Kind, rs: &[Record], log: u64, logs: u64) -> Result<(), Memory>
     requires some { 0 < logs }
-    ensures committed { OnOk result (AddsCommits kind log logs rs.now index.old.committed index.new.committed) }
-    ensures parts { OnOk result (AddsParts kind log logs rs.now index.old.parts index.new.parts) }
-    ensures infos { OnOk result (AddsInfos (info_key kind) log logs rs.now index.old.infos index.new.infos) }
+    ensures committed { OnOk result (AddsCommits kind log logs rs.now index.old.committed.items index.new.committed.items) }
+    ensures parts { OnOk result (AddsParts kind log logs rs.now index.old.parts.items index.new.parts.items) }
+    ensures infos { OnOk result (AddsInfos (info_key kind) log logs rs.now index.old.infos.items index.new.infos.items) }
 {
     for at in 0..rs.len() {
         let r = &rs[at];
@@ -63,17 +77,17 @@ fn add_log(index: &mut Index, kind: Kind, rs: &[Record], log: u64, logs: u64) ->
 
 /// Adds the one whose commit the record is.
 fn add_commit(
-    set: &mut BTreeSet<u64>,
+    numbers: &mut Vec<u64>,
     kind: Kind,
     r: &Record,
     log: u64,
     logs: u64,
 ) -> Result<(), Memory>
     requires some { 0 < logs }
-    ensures { OnOk result (AddsCommits kind log logs (r.now ∷ []) set.old set.new) }
+    ensures { OnOk result (AddsCommits kind log logs (r.now ∷ []) numbers.old.items numbers.new.items) }
 {
     if let Some(number) = commit_here(kind, r, log, logs) {
-        set.insert(number)?;
+        numbers.push(number)?;
     }
     Ok(())
 }
@@ -113,17 +127,17 @@ fn act_commit_here(r: &Record, log: u64, logs: u64) -> Option<u64>
 
 /// Adds the one and the actor whose part the record is.
 fn add_part(
-    set: &mut BTreeSet<(u64, u16)>,
+    parts: &mut Vec<(u64, u16)>,
     kind: Kind,
     r: &Record,
     log: u64,
     logs: u64,
 ) -> Result<(), Memory>
     requires some { 0 < logs }
-    ensures { OnOk result (AddsParts kind log logs (r.now ∷ []) set.old set.new) }
+    ensures { OnOk result (AddsParts kind log logs (r.now ∷ []) parts.old.items parts.new.items) }
 {
     if let Some(pair) = part_here(kind, r, log, logs) {
-        set.insert(pair)?;
+        parts.push(pair)?;
     }
     Ok(())
 }
@@ -165,7 +179,7 @@ fn prepare_here(r: &Record, log: u64, logs: u64) -> Option<(u64, u16)>
 
 /// The record at this place is the last so far that tells the actors of its batch or transaction, if it tells any.
 fn add_info(
-    places: &mut BTreeMap<u64, usize>,
+    places: &mut Vec<(u64, usize)>,
     kind: Kind,
     r: &Record,
     at: usize,
@@ -173,10 +187,10 @@ fn add_info(
     logs: u64,
 ) -> Result<(), Memory>
     requires some { 0 < logs }
-    ensures { OnOk result (AddsInfo (info_key kind) log logs at r.now places.old places.new) }
+    ensures { OnOk result (AddsInfo (info_key kind) log logs at r.now places.old.items places.new.items) }
 {
     if let Some(number) = info_here(kind, r, log, logs) {
-        places.insert(number, at)?;
+        places.push((number, at))?;
     }
     Ok(())
 }

@@ -2,19 +2,17 @@
 ghost use Rattle.std.specs.Prelude.{◌≡◌, ◌≢◌, ℕ, ◌<◌, List, length, IfOk, OnOk};
 ghost use Rattle.snap_base.specs.declared.ids.ActorId.{ActorId};
 ghost use Rattle.txn_records.specs.declared.records.Record.{Record};
-ghost use Rattle.std.specs.List.Sorted.{IsStrictlySortedBy};
 ghost use Rattle.snap_recover.specs.declared.kinds.Kind.TheVariants as kinds;
 ghost use Rattle.snap_recover.specs.Logs.{values_in};
 ghost use Rattle.snap_recover.specs.Opening.{IsIn, IsBatchWhole, IsActIn, IsActOf, IsInfoOf, IsCommitOf, IsCommitted};
-ghost use Rattle.snap_recover.specs.Passes.{Spot, spot_cmp, info_key, commit_key, HasCommitted, HasInfos, IsAllWhole, IsBatchSpot, IsActSpot, IsSpotIn, AddsSpots, HasSpots, IsKeptAt, HasIn, bid_at, tid_at};
+ghost use Rattle.snap_recover.specs.Passes.{info_key, commit_key, HasCommitted, HasInfos, IsAllWhole, IsBatchSpot, IsActSpot, IsSpotIn, AddsSpots, HasSpots, IsKeptAt, HasIn, bid_at, tid_at};
 
 use crate::Kept;
 use crate::index::Index;
 use crate::infos::{act_at, copy_values, info_at};
-use crate::wholes::ascending;
+use crate::ordered::{place_of, settle};
 use snap_base::{Bid, Memory, Sequence, Tid};
 use std::alloc::Global;
-use std::collections::{BTreeMap, BTreeSet};
 use txn_records::Record;
 
 /// Where something stands among what is kept: a batch number, 0 for the batch and 1 for an undeclared transaction
@@ -26,16 +24,16 @@ pub(crate) fn keep_all(
     alloc: Global,
     logs: &[Sequence<Record>],
     batches: &Index,
-    commits: &BTreeMap<u64, usize>,
+    commits: &[(u64, usize)],
     acts: &Index,
 ) -> Result<Sequence<Kept>, Memory>
     requires some { 0 < length logs.now }
     requires whole { IsAllWhole logs.now }
-    requires batches_committed { HasCommitted kinds.Batch logs.now batches.now.committed }
-    requires batches_infos { HasInfos (info_key kinds.Batch) logs.now batches.now.infos }
+    requires batches_committed { HasCommitted kinds.Batch logs.now batches.now.committed.items }
+    requires batches_infos { HasInfos (info_key kinds.Batch) logs.now batches.now.infos.items }
     requires commits { HasInfos (commit_key kinds.Batch) logs.now commits.now }
-    requires acts_committed { HasCommitted kinds.Act logs.now acts.now.committed }
-    requires acts_infos { HasInfos (info_key kinds.Act) logs.now acts.now.infos }
+    requires acts_committed { HasCommitted kinds.Act logs.now acts.now.committed.items }
+    requires acts_infos { HasInfos (info_key kinds.Act) logs.now acts.now.infos.items }
     ensures { IfOk result (λ ks. IsCommitted logs.now ks) }
 {
     let spots = spots_of(
@@ -45,87 +43,76 @@ pub(crate) fn keep_all(
         &acts.committed,
         &acts.infos,
     )?;
-    let order = in_order(alloc, &spots)?;
     let mut kept = Sequence::new(alloc);
-    for i in 0..order.len() {
-        let next = keep(alloc, logs, order[i], &batches.infos, commits, &acts.infos)?;
+    for i in 0..spots.len() {
+        let next = keep(alloc, logs, spots[i], &batches.infos, commits, &acts.infos)?;
         kept.push(next)?;
     }
     Ok(kept)
 }
 
-/// The spots in a set, in their order.
-fn in_order(alloc: Global, set: &BTreeSet<Spot>) -> Result<Vec<Spot>, Memory>
-    ensures all { IfOk result (λ spots. spots.items ≡ set.now.keys) }
-    ensures ascend { IfOk result (λ spots. IsStrictlySortedBy spot_cmp set.now.keys) }
-{
-    let spots = set.iter().copied().collect(alloc)?;
-    Ok(spots)
-}
-
-/// The spots of all that is in.
+/// The spots of all that is in, in their order.
 fn spots_of(
     alloc: Global,
     logs: &[Sequence<Record>],
-    batches: &BTreeSet<u64>,
-    acts: &BTreeSet<u64>,
-    infos: &BTreeMap<u64, usize>,
-) -> Result<BTreeSet<Spot>, Memory>
+    batches: &[u64],
+    acts: &[u64],
+    infos: &[(u64, usize)],
+) -> Result<Vec<Spot>, Memory>
     requires some { 0 < length logs.now }
     requires batches { HasCommitted kinds.Batch logs.now batches.now }
     requires acts { HasCommitted kinds.Act logs.now acts.now }
     requires infos { HasInfos (info_key kinds.Act) logs.now infos.now }
-    ensures { IfOk result (λ spots. HasSpots logs.now spots) }
+    ensures { IfOk result (λ spots. HasSpots logs.now spots.items) }
 {
-    let mut spots = BTreeSet::new(alloc);
-    let bids = ascending(alloc, batches)?;
-    add_batches(&mut spots, bids.as_slice())?;
-    let tids = ascending(alloc, acts)?;
-    add_acts(&mut spots, logs, tids.as_slice(), infos)?;
+    let mut spots = Vec::new(alloc);
+    add_batches(&mut spots, batches)?;
+    add_acts(&mut spots, logs, acts, infos)?;
+    settle(&mut spots);
     Ok(spots)
 }
 
 /// Adds the spots of these batches.
-fn add_batches(spots: &mut BTreeSet<Spot>, bids: &[u64]) -> Result<(), Memory>
-    ensures { OnOk result (AddsSpots IsBatchSpot bids.now spots.old spots.new) }
+fn add_batches(spots: &mut Vec<Spot>, bids: &[u64]) -> Result<(), Memory>
+    ensures { OnOk result (AddsSpots IsBatchSpot bids.now spots.old.items spots.new.items) }
 {
     for i in 0..bids.len() {
-        spots.insert((bids[i], 0, 0, 0))?;
+        spots.push((bids[i], 0, 0, 0))?;
     }
     Ok(())
 }
 
 /// Adds the spots of these undeclared transactions, which are in.
 fn add_acts(
-    spots: &mut BTreeSet<Spot>,
+    spots: &mut Vec<Spot>,
     logs: &[Sequence<Record>],
     tids: &[u64],
-    infos: &BTreeMap<u64, usize>,
+    infos: &[(u64, usize)],
 ) -> Result<(), Memory>
     requires some { 0 < length logs.now }
     requires are_in { HasIn kinds.Act logs.now tids.now }
     requires infos { HasInfos (info_key kinds.Act) logs.now infos.now }
-    ensures { OnOk result (AddsSpots (IsActSpot logs.now) tids.now spots.old spots.new) }
+    ensures { OnOk result (AddsSpots (IsActSpot logs.now) tids.now spots.old.items spots.new.items) }
 {
     for i in 0..tids.len() {
         let spot = spot_of_act(logs, tids[i], infos);
-        spots.insert(spot)?;
+        spots.push(spot)?;
     }
     Ok(())
 }
 
 /// The spot of an undeclared transaction that is in.
-fn spot_of_act(logs: &[Sequence<Record>], tid: u64, infos: &BTreeMap<u64, usize>) -> Spot
+fn spot_of_act(logs: &[Sequence<Record>], tid: u64, infos: &[(u64, usize)]) -> Spot
     requires some { 0 < length logs.now }
     requires is_in { IsActIn logs.now (tid_at tid) }
     requires infos { HasInfos (info_key kinds.Act) logs.now infos.now }
     ensures { IsActSpot logs.now tid result }
 {
-    let Some(place) = infos.get(&tid) else {
+    let Some(place) = place_of(infos, tid) else {
         unreachable!()
     };
     let log = tid % logs.len() as u64;
-    let (m, c, _, _) = act_at(logs[log as usize].as_slice(), *place, tid);
+    let (m, c, _, _) = act_at(logs[log as usize].as_slice(), place, tid);
     (m.0, 1, c, tid)
 }
 
@@ -134,9 +121,9 @@ fn keep(
     alloc: Global,
     logs: &[Sequence<Record>],
     spot: Spot,
-    infos: &BTreeMap<u64, usize>,
-    commits: &BTreeMap<u64, usize>,
-    acts: &BTreeMap<u64, usize>,
+    infos: &[(u64, usize)],
+    commits: &[(u64, usize)],
+    acts: &[(u64, usize)],
 ) -> Result<Kept, Memory>
     requires some { 0 < length logs.now }
     requires whole { IsAllWhole logs.now }
@@ -153,7 +140,7 @@ fn keep(
 }
 
 /// What is kept of an undeclared transaction that is in.
-fn keep_act(logs: &[Sequence<Record>], spot: Spot, infos: &BTreeMap<u64, usize>) -> Kept
+fn keep_act(logs: &[Sequence<Record>], spot: Spot, infos: &[(u64, usize)]) -> Kept
     requires some { 0 < length logs.now }
     requires is_in { IsSpotIn logs.now spot }
     requires is_act { spot.1 ≢ 0 }
@@ -168,18 +155,18 @@ fn keep_act(logs: &[Sequence<Record>], spot: Spot, infos: &BTreeMap<u64, usize>)
 fn outcome_of(
     logs: &[Sequence<Record>],
     tid: u64,
-    infos: &BTreeMap<u64, usize>,
+    infos: &[(u64, usize)],
 ) -> (Tid, Bid, u64, Option<i64>)
     requires some { 0 < length logs.now }
     requires is_in { IsActIn logs.now (tid_at tid) }
     requires infos { HasInfos (info_key kinds.Act) logs.now infos.now }
     ensures { (result.0 ≡ tid_at tid) × ((actors : List ActorId) × IsActOf logs.now (tid_at tid) result.1 result.2 result.3 actors) }
 {
-    let Some(place) = infos.get(&tid) else {
+    let Some(place) = place_of(infos, tid) else {
         unreachable!()
     };
     let log = tid % logs.len() as u64;
-    let (m, c, value, _) = act_at(logs[log as usize].as_slice(), *place, tid);
+    let (m, c, value, _) = act_at(logs[log as usize].as_slice(), place, tid);
     (Tid(tid), m, c, value)
 }
 
@@ -188,8 +175,8 @@ fn keep_batch(
     alloc: Global,
     logs: &[Sequence<Record>],
     bid: u64,
-    infos: &BTreeMap<u64, usize>,
-    commits: &BTreeMap<u64, usize>,
+    infos: &[(u64, usize)],
+    commits: &[(u64, usize)],
 ) -> Result<Kept, Memory>
     requires some { 0 < length logs.now }
     requires whole { IsBatchWhole logs.now (bid_at bid) }
@@ -212,18 +199,18 @@ fn tids_of(
     alloc: Global,
     logs: &[Sequence<Record>],
     bid: u64,
-    infos: &BTreeMap<u64, usize>,
+    infos: &[(u64, usize)],
 ) -> Result<Sequence<Tid>, Memory>
     requires some { 0 < length logs.now }
     requires whole { IsBatchWhole logs.now (bid_at bid) }
     requires infos { HasInfos (info_key kinds.Batch) logs.now infos.now }
     ensures { IfOk result (λ tids. (actors : List ActorId) × IsInfoOf logs.now (bid_at bid) actors tids) }
 {
-    let Some(place) = infos.get(&bid) else {
+    let Some(place) = place_of(infos, bid) else {
         unreachable!()
     };
     let log = bid % logs.len() as u64;
-    let (_, tids) = info_at(logs[log as usize].as_slice(), *place, bid);
+    let (_, tids) = info_at(logs[log as usize].as_slice(), place, bid);
     Ok(Sequence::from_vec(Vec::from_slice(alloc, tids.as_slice())?))
 }
 
@@ -232,16 +219,16 @@ fn values_of(
     alloc: Global,
     logs: &[Sequence<Record>],
     bid: u64,
-    commits: &BTreeMap<u64, usize>,
+    commits: &[(u64, usize)],
 ) -> Result<Sequence<i64>, Memory>
     requires some { 0 < length logs.now }
     requires is_in { IsIn logs.now (bid_at bid) }
     requires commits { HasInfos (commit_key kinds.Batch) logs.now commits.now }
     ensures { IfOk result (λ vs. (r : Record) × IsCommitOf logs.now (bid_at bid) r × (vs ≡ values_in r)) }
 {
-    let Some(place) = commits.get(&bid) else {
+    let Some(place) = place_of(commits, bid) else {
         unreachable!()
     };
     let log = bid % logs.len() as u64;
-    copy_values(alloc, logs[log as usize].as_slice(), *place, bid)
+    copy_values(alloc, logs[log as usize].as_slice(), place, bid)
 }

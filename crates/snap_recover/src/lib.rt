@@ -13,6 +13,7 @@ mod kinds;
 mod laws;
 mod numbers;
 mod openings;
+mod ordered;
 mod ranges;
 mod recovery;
 mod refusals;

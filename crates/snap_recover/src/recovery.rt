@@ -121,15 +121,15 @@ fn found_whole(alloc: Global, logs: &[Sequence<Record>]) -> Result<FoundWhole, R
     requires some { 0 < length logs.now }
     requires few { length logs.now < 256 }
     ensures kept { IfOk result (λ found. AreWhollyCommitted logs.now found.kept) }
-    ensures batches { IfOk result (λ found. HasCommitted kinds.Batch logs.now found.batches.committed) }
-    ensures acts { IfOk result (λ found. HasCommitted kinds.Act logs.now found.acts.committed) }
+    ensures batches { IfOk result (λ found. HasCommitted kinds.Batch logs.now found.batches.committed.items) }
+    ensures acts { IfOk result (λ found. HasCommitted kinds.Act logs.now found.acts.committed.items) }
     ensures refused { IfErr result (λ no. IsLack logs.now no) }
 {
     let batches = index_of(alloc, Kind::Batch, logs)?;
     let acts = index_of(alloc, Kind::Act, logs)?;
-    check_all(alloc, logs, &batches, &acts)?;
+    check_all(logs, &batches, &acts)?;
     let commits = commits_of(alloc, logs)?;
-    check_values(alloc, logs, &batches.committed, &batches.infos, &commits)?;
+    check_values(logs, &batches.committed, &batches.infos, &commits)?;
     let kept = keep_all(alloc, logs, &batches, &commits, &acts)?;
     Ok(FoundWhole {
         batches,

@@ -1,24 +1,26 @@
 //! The actors' states after the records that count.
 ghost use Rattle.std.specs.Prelude.{◌≡◌, ℕ, ◌%◌, ◌<◌, [], ◌∷◌, length, MatchOption, IfOk};
 ghost use Rattle.std.specs.List.{AllByRecursion};
+ghost use Rattle.std.specs.List.Sorted.{IsStrictlySortedBy};
+ghost use Rattle.std.specs.Ordering.{nat_cmp};
 ghost use Rattle.snap_recover.specs.declared.kinds.Kind.TheVariants as kinds;
 ghost use Rattle.snap_recover.specs.Logs.{all_of, states_in};
 ghost use Rattle.snap_recover.specs.Opening.{IsInRange, AreStatesOf};
 ghost use Rattle.snap_recover.specs.Passes.{In, HasCommitted, RecordTellsState, Replays};
 
+use crate::ordered::has_number;
 use snap_base::{Memory, Sequence, State};
 use std::alloc::Global;
-use std::collections::BTreeSet;
 use txn_records::Record;
 
-/// The states of the actors, which began with these. The sets have the batches and the undeclared transactions that
+/// The states of the actors, which began with these. The lists have the batches and the undeclared transactions that
 /// are in.
 pub(crate) fn states_after(
     alloc: Global,
     logs: &[Sequence<Record>],
     first: &[State],
-    batches: &BTreeSet<u64>,
-    acts: &BTreeSet<u64>,
+    batches: &[u64],
+    acts: &[u64],
 ) -> Result<Vec<State>, Memory>
     requires some { 0 < length logs.now }
     requires range { AllByRecursion (IsInRange (length first.now)) (all_of logs.now) }
@@ -48,10 +50,12 @@ fn replay(
     rs: &[Record],
     log: u64,
     logs: u64,
-    batches: &BTreeSet<u64>,
-    acts: &BTreeSet<u64>,
+    batches: &[u64],
+    acts: &[u64],
 )
     requires some { 0 < logs }
+    requires batches { IsStrictlySortedBy nat_cmp batches.now }
+    requires acts { IsStrictlySortedBy nat_cmp acts.now }
     requires range { AllByRecursion (IsInRange (length states.old.items)) rs.now }
     ensures { Replays log logs (In batches.now) (In acts.now) rs.now states.old.items states.new.items }
 {
@@ -68,22 +72,24 @@ fn state_here(
     r: &Record,
     log: u64,
     logs: u64,
-    batches: &BTreeSet<u64>,
-    acts: &BTreeSet<u64>,
+    batches: &[u64],
+    acts: &[u64],
 ) -> Option<(usize, State)>
     requires some { 0 < logs }
+    requires batches { IsStrictlySortedBy nat_cmp batches.now }
+    requires acts { IsStrictlySortedBy nat_cmp acts.now }
     ensures { MatchOption result ((a : ℕ) → a % logs ≡ log → ¬ RecordTellsState (In batches.now) (In acts.now) a r.now) (λ x. (x.0 % logs ≡ log) × (states_in r.now ≡ x.1 ∷ []) × RecordTellsState (In batches.now) (In acts.now) x.0 r.now) }
 {
     match r {
         Record::BatchComplete { bid, actor, state } => {
-            if actor.0 as u64 % logs == log && batches.contains(&bid.0) {
+            if actor.0 as u64 % logs == log && has_number(batches, bid.0) {
                 Some((actor.0 as usize, *state))
             } else {
                 None
             }
         }
         Record::ActPrepare { tid, actor, state } => {
-            if actor.0 as u64 % logs == log && acts.contains(&tid.0) {
+            if actor.0 as u64 % logs == log && has_number(acts, tid.0) {
                 Some((actor.0 as usize, *state))
             } else {
                 None

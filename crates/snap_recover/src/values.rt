@@ -7,19 +7,16 @@ ghost use Rattle.snap_recover.specs.Passes.{bid_at, info_key, commit_key, HasCom
 
 use crate::RecoverNo;
 use crate::infos::{info_at, values_at};
-use crate::wholes::ascending;
+use crate::ordered::place_of;
 use snap_base::{Bid, Sequence, Tid};
-use std::alloc::Global;
-use std::collections::{BTreeMap, BTreeSet};
 use txn_records::{Key, Record};
 
 /// That each batch that is in has one value for each of its transactions, or none is told, by the numbers.
 pub(crate) fn check_values(
-    alloc: Global,
     logs: &[Sequence<Record>],
-    committed: &BTreeSet<u64>,
-    infos: &BTreeMap<u64, usize>,
-    commits: &BTreeMap<u64, usize>,
+    committed: &[u64],
+    infos: &[(u64, usize)],
+    commits: &[(u64, usize)],
 ) -> Result<(), RecoverNo>
     requires some { 0 < length logs.now }
     requires few { length logs.now < 256 }
@@ -29,9 +26,8 @@ pub(crate) fn check_values(
     requires commits { HasInfos (commit_key kinds.Batch) logs.now commits.now }
     ensures { MatchResult result (λ t. AllValued logs.now) (λ no. IsFirstValuesLackOf logs.now no) }
 {
-    let numbers = ascending(alloc, committed)?;
-    for i in 0..numbers.len() {
-        check_batch(logs, numbers[i], infos, commits)?;
+    for i in 0..committed.len() {
+        check_batch(logs, committed[i], infos, commits)?;
     }
     Ok(())
 }
@@ -40,8 +36,8 @@ pub(crate) fn check_values(
 fn check_batch(
     logs: &[Sequence<Record>],
     number: u64,
-    infos: &BTreeMap<u64, usize>,
-    commits: &BTreeMap<u64, usize>,
+    infos: &[(u64, usize)],
+    commits: &[(u64, usize)],
 ) -> Result<(), RecoverNo>
     requires some { 0 < length logs.now }
     requires few { length logs.now < 256 }
@@ -51,16 +47,16 @@ fn check_batch(
     requires commits { HasInfos (commit_key kinds.Batch) logs.now commits.now }
     ensures { MatchResult result (λ t. HasItsValues logs.now (bid_at number)) (λ no. IsValuesLackOf logs.now number no) }
 {
-    let Some(place) = infos.get(&number) else {
+    let Some(place) = place_of(infos, number) else {
         unreachable!()
     };
-    let Some(commit) = commits.get(&number) else {
+    let Some(commit) = place_of(commits, number) else {
         unreachable!()
     };
     let log = number % logs.len() as u64;
     let rs = logs[log as usize].as_slice();
-    let (_, tids) = info_at(rs, *place, number);
-    let Some(values) = values_at(rs, *commit, number) else {
+    let (_, tids) = info_at(rs, place, number);
+    let Some(values) = values_at(rs, commit, number) else {
         return Ok(());
     };
     if values.len() != tids.len() {

@@ -2,7 +2,7 @@ use Rattle.std.proofs.Common.{◌≡◌, false, sym, ◌∙◌}
 use Rattle.std.proofs.lemmas.Bool.{true≢false}
 use Rattle.std.specs.BTreeSet as bag
 use Rattle.std.specs.Ordering.{nat_cmp}
-use Rattle.snap_recover.proofs.Homes.{inserts}
+use Rattle.snap_follow.proofs.NumberSets.{inserts}
 use Rattle.snap_follow.proofs.Noted.{nothing_told, was_taken, is_free, leaves, is_away, blocks}
 use Rattle.snap_follow.proofs.settling.note.Goals as goal
 

@@ -4,7 +4,7 @@ use Rattle.snap_recover.proofs.index.add_log.Given as goal
 
 abbrev pub invariant-loop-at : goal.invariant-loop-at
 invariant-loop-at l = record {
-  committed : AddsCommits l.kind l.log l.logs (take l.at l.rs) l.initial.index.committed l.index.committed;
-  parts : AddsParts l.kind l.log l.logs (take l.at l.rs) l.initial.index.parts l.index.parts;
-  infos : AddsInfos (info_key l.kind) l.log l.logs (take l.at l.rs) l.initial.index.infos l.index.infos;
+  committed : AddsCommits l.kind l.log l.logs (take l.at l.rs) l.initial.index.committed.items l.index.committed.items;
+  parts : AddsParts l.kind l.log l.logs (take l.at l.rs) l.initial.index.parts.items l.index.parts.items;
+  infos : AddsInfos (info_key l.kind) l.log l.logs (take l.at l.rs) l.initial.index.infos.items l.index.infos.items;
 }

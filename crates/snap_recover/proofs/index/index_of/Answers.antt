@@ -1,21 +1,20 @@
-use Rattle.std.proofs.Common.{ℕ}
-use Rattle.snap_recover.specs.Passes.{In, InPair, commit_key, part_key, info_key}
-use Rattle.snap_recover.proofs.Steps.{same_at}
-use Rattle.snap_recover.proofs.Homes.{through_step, through_end}
-use Rattle.snap_recover.proofs.Placing.{infos_through}
+use Rattle.snap_recover.specs.Passes.{info_key}
+use Rattle.snap_recover.proofs.Homes.{told_alike}
+use Rattle.snap_recover.proofs.Placing.{infos_settled}
+use Rattle.snap_recover.proofs.Searching.{nat_exact, pair_exact}
 use Rattle.snap_recover.proofs.index.index_of.Goals as goal
 
-pub loop-i-preserved : goal.loop-i-preserved
-loop-i-preserved c =
-    let here = same_at c.args.logs.now c.loop-i.i c.index-logs-i.result c.as_slice.result.now c.as_slice.ensures c.index-logs-i.is in
-    record {
-      committed = through_step (λ (n : ℕ). n) (commit_key c.args.kind) c.args.logs.now c.loop-i.i c.as_slice.result.now (In c.loop-i.index.committed) (In c.add_log.new.index.committed)
-          c.loop-i-test.true here c.in_ok-add_log.ensures.committed c.loop-i.invariant.committed;
-      parts = through_step (λ (x : ℕ × ℕ). x.1) (part_key c.args.kind) c.args.logs.now c.loop-i.i c.as_slice.result.now (InPair c.loop-i.index.parts) (InPair c.add_log.new.index.parts)
-          c.loop-i-test.true here c.in_ok-add_log.ensures.parts c.loop-i.invariant.parts;
-      infos = infos_through (info_key c.args.kind) c.args.logs.now c.loop-i.i c.as_slice.result.now c.loop-i.index.infos c.add_log.new.index.infos
-          c.loop-i-test.true here c.in_ok-add_log.ensures.infos c.loop-i.invariant.infos;
-    }
+pub settle-requires : goal.settle-requires
+settle-requires c = record { exact = nat_exact }
+
+pub settle-requires-2 : goal.settle-requires-2
+settle-requires-2 c = record { exact = pair_exact }
 
 pub returns-clause-committed : goal.returns-clause-committed
-returns-clause-committed c = through_end (λ (n : ℕ). n) (commit_key c.args.kind) c.args.logs.now c.loop-i.i (In c.loop-i.index.committed) c.requires.some c.loop-i-test.false c.loop-i.invariant.committed
+returns-clause-committed c = record { ascend = c.settle.ensures.ascend; all = told_alike _ _ c.settle.ensures.same c.in_ok-index.ensures.committed }
+
+pub returns-clause-parts : goal.returns-clause-parts
+returns-clause-parts c = record { ascend = c.settle-2.ensures.ascend; all = told_alike _ _ c.settle-2.ensures.same c.in_ok-index.ensures.parts }
+
+pub returns-clause-infos : goal.returns-clause-infos
+returns-clause-infos c = infos_settled (info_key c.args.kind) c.args.logs.now c.in_ok-index.index.infos.items c.settle_places.new.places.items c.in_ok-settle_places.ensures.ascend c.in_ok-settle_places.ensures.same c.in_ok-index.ensures.infos

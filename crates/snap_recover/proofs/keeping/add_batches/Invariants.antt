@@ -3,4 +3,4 @@ use Rattle.snap_recover.specs.Passes.{IsBatchSpot, AddsSpots}
 use Rattle.snap_recover.proofs.keeping.add_batches.Given as goal
 
 abbrev pub invariant-loop-i : goal.invariant-loop-i
-invariant-loop-i l = AddsSpots IsBatchSpot (take l.i l.bids) l.initial.spots l.spots
+invariant-loop-i l = AddsSpots IsBatchSpot (take l.i l.bids) l.initial.spots.items l.spots.items

@@ -2,4 +2,4 @@ use Rattle.snap_recover.proofs.Spots.{KeptThrough}
 use Rattle.snap_recover.proofs.keeping.keep_all.Given as goal
 
 abbrev pub invariant-loop-i : goal.invariant-loop-i
-invariant-loop-i l = KeptThrough l.logs l.order.items l.i l.kept
+invariant-loop-i l = KeptThrough l.logs l.spots.items l.i l.kept

@@ -1,12 +1,10 @@
 use Rattle.std.proofs.Common.{sym}
-use Rattle.std.specs.Ordering.{nat_cmp}
-use Rattle.std.specs.BTreeMap as tree
 use Rattle.txn_records.specs.declared.keys.Key.TheVariants as keys
 use Rattle.snap_recover.specs.Logs.{log_of}
-use Rattle.snap_recover.specs.Passes.{tid_at}
+use Rattle.snap_recover.specs.Passes.{tid_at, last_at}
 use Rattle.snap_recover.proofs.Placing.{placed_some}
 use Rattle.snap_recover.proofs.keeping.spot_of_act.Goals as goal
 
 pub unreachable-requires : goal.unreachable-requires
 unreachable-requires c =
-    placed_some (keys.Act (tid_at c.args.tid)) (log_of c.args.logs.now c.args.tid) (tree.get nat_cmp c.args.infos.now c.args.tid) (sym c.in_default.ensures.value) (c.requires.infos c.args.tid) c.requires.is_in
+    placed_some (keys.Act (tid_at c.args.tid)) (log_of c.args.logs.now c.args.tid) (last_at c.args.infos.now c.args.tid) (sym c.in_default.ensures) (c.requires.infos.all c.args.tid) c.requires.is_in

@@ -17,6 +17,8 @@ replay-requires c =
     let at = same_at logs i c.index-logs-i.result rs c.as_slice.ensures c.index-logs-i.is in
     record {
       some = c.requires.some;
+      batches = c.requires.batches.ascend;
+      acts = c.requires.acts.ascend;
       range = subst (λ (n : ℕ). AllByRecursion (IsInRange n) rs) (sym c.loop-i.invariant.long) (log_in_range (length c.args.first.now) logs i rs c.loop-i-test.true at c.requires.range);
     }
 

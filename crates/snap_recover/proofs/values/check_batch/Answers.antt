@@ -1,14 +1,12 @@
 use Rattle.std.proofs.Common.{◌≡◌, ◌%◌, List, [], length, ◌∙◌, sym, subst, arith}
 use Rattle.std.proofs.Math.Nat.{mod-lt}
 use Rattle.std.proofs.lemmas.List.{get_or_default}
-use Rattle.std.specs.Ordering.{nat_cmp}
-use Rattle.std.specs.BTreeMap as tree
 use Rattle.txn_records.specs.declared.keys.Key.TheVariants as keys
 use Rattle.txn_records.specs.declared.records.Record.{Record}
 use Rattle.txn_records.specs.declared.records.Record.TheVariants.{BatchInfo, BatchDone}
 use Rattle.txn_records.specs.Records.{key}
 use Rattle.snap_recover.specs.Logs.{IsLastOf, log_of}
-use Rattle.snap_recover.specs.Passes.{bid_at}
+use Rattle.snap_recover.specs.Passes.{bid_at, last_at}
 use Rattle.snap_recover.proofs.OneRefusal.{info_is_there}
 use Rattle.snap_recover.proofs.Placing.{placed_some}
 use Rattle.snap_recover.proofs.Valuing.{told_valued}
@@ -17,12 +15,12 @@ use Rattle.snap_recover.proofs.values.check_batch.Goals as goal
 pub unreachable-requires : goal.unreachable-requires
 unreachable-requires c =
     let w = c.requires.whole in
-    placed_some (keys.Info (bid_at c.args.number)) (log_of c.args.logs.now c.args.number) (tree.get nat_cmp c.args.infos.now c.args.number) (sym c.in_default.ensures.value) (c.requires.infos c.args.number)
+    placed_some (keys.Info (bid_at c.args.number)) (log_of c.args.logs.now c.args.number) (last_at c.args.infos.now c.args.number) (sym c.in_default.ensures) (c.requires.infos.all c.args.number)
     (info_is_there c.args.logs.now (bid_at c.args.number) w.0 w.1 w.2)
 
-pub unreachable-requires-in_default-get : goal.unreachable-requires-in_default-get
-unreachable-requires-in_default-get c =
-    placed_some (keys.Commit (bid_at c.args.number)) (log_of c.args.logs.now c.args.number) (tree.get nat_cmp c.args.commits.now c.args.number) (sym c.in_default-get.ensures.value) (c.requires.commits c.args.number) c.requires.is_in
+pub unreachable-requires-in_default-place_of : goal.unreachable-requires-in_default-place_of
+unreachable-requires-in_default-place_of c =
+    placed_some (keys.Commit (bid_at c.args.number)) (log_of c.args.logs.now c.args.number) (last_at c.args.commits.now c.args.number) (sym c.in_default-place_of.ensures) (c.requires.commits.all c.args.number) c.requires.is_in
 
 pub returns : goal.returns
 returns c =

@@ -1,11 +1,9 @@
 use Rattle.std.proofs.Common.{◌%◌, List, length, subst, sym, refl}
 use Rattle.std.proofs.Math.Nat.{mod-lt}
-use Rattle.std.specs.Ordering.{nat_cmp}
-use Rattle.std.specs.BTreeMap as tree
 use Rattle.snap_base.specs.declared.ids.ActorId.{ActorId}
 use Rattle.txn_records.specs.declared.keys.Key.{Key}
 use Rattle.snap_recover.specs.Logs.{log_of}
-use Rattle.snap_recover.specs.Passes.{TellsActors, MemberLacks}
+use Rattle.snap_recover.specs.Passes.{TellsActors, MemberLacks, last_at}
 use Rattle.snap_recover.proofs.Steps.{same_at}
 use Rattle.snap_recover.proofs.Checking.{lacks_info, told_in_log, lacks_part, member_whole}
 use Rattle.snap_recover.proofs.wholes.check.Goals as goal
@@ -13,7 +11,7 @@ use Rattle.snap_recover.proofs.wholes.check.Goals as goal
 pub returns-in_default : goal.returns-in_default
 returns-in_default c =
     subst (λ (k : Key). MemberLacks c.args.kind c.args.logs.now c.args.number k (c.args.number % length c.args.logs.now)) (sym c.key_of_info.ensures)
-    (lacks_info c.args.kind c.args.logs.now c.args.number (tree.get nat_cmp c.args.infos.now c.args.number) (sym c.in_default.ensures.value) (c.requires.infos c.args.number) c.requires.is_in)
+    (lacks_info c.args.kind c.args.logs.now c.args.number (last_at c.args.infos.now c.args.number) (sym c.in_default.ensures) (c.requires.infos.all c.args.number) c.requires.is_in)
 
 pub returns-in-Some-first_lacking : goal.returns-in-Some-first_lacking
 returns-in-Some-first_lacking c =
