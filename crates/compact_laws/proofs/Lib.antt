@@ -1,3 +1,3 @@
-mod ListsGrown
+pub mod ListsGrown
 mod RunsOnSets
 mod StepsStand

@@ -108,7 +108,7 @@ plains_grown n (xs ∷ lists) logs =
     ap (λ z. z ∷ map plains (grown_from (n + 1) lists logs)) (plains_join xs (logs n))
     ∙ ap (λ z. (plains xs ++ all_told (logs n)) ∷ z) (plains_grown (n + 1) lists logs)
 
-plain_grown : (lists : List (List Record)) (logs : ℕ → List LogRecord) → plain_lists (grown lists logs) ≡ grown (plain_lists lists) logs
+pub plain_grown : (lists : List (List Record)) (logs : ℕ → List LogRecord) → plain_lists (grown lists logs) ≡ grown (plain_lists lists) logs
 plain_grown [] logs = refl
 plain_grown (xs ∷ lists) logs =
     ap (λ z. z ∷ map plains (grown_from 1 lists logs)) (ap (without_point (xs ++ all_told (logs 0))) (same_point xs (logs 0)) ∙ grown_without xs (logs 0) (point_in xs) refl)

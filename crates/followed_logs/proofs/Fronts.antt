@@ -1,81 +1,22 @@
 -- The lists that a round finds, with the checkpoint's states in place of Genesis's.
-use Rattle.std.specs.Prelude.{◌≡◌, refl, ℕ, zero, suc, ◌+◌, ◌-◌, ◌<◌, ◌≤◌, Bool, true, false, if◌then◌else◌, Option, Some, None, List, [], ◌∷◌, ◌++◌, length, map, filter, replicate, slice_index_or}
+use Rattle.std.specs.Prelude.{◌≡◌, refl, ℕ, zero, suc, ◌+◌, ◌-◌, ◌<◌, ◌≤◌, Bool, true, false, if◌then◌else◌, List, [], ◌∷◌, ◌++◌, length, map, filter, replicate, slice_index_or}
 use Rattle.std.specs.List.{AllByRecursion}
 use Rattle.std.proofs.Common.{arith, ap, ◌∙◌}
 use Rattle.snap_base.specs.declared.transactions.State.{State}
-use Rattle.protocol.specs.Records.{LogRecord, BatchInfo, BatchComplete, BatchDone, ActPrepare, ActDone}
+use Rattle.protocol.specs.Records.{LogRecord}
 use Rattle.protocol_records.specs.SeveralRuns.{CutRun}
 use Rattle.followed_runs.specs.FollowingRuns.{runs_read}
 use Rattle.txn_records.specs.declared.records.Record.{Record}
 use Rattle.txn_records.specs.declared.records.Record.TheVariants.{Genesis}
-use Rattle.log_set.specs.Told.{told, all_told}
-use Rattle.recovery_laws.specs.Grown.{grown_from, grown}
+use Rattle.log_set.specs.Told.{all_told}
+use Rattle.recovery_laws.specs.Grown.{grown}
 use Rattle.recovery_laws.proofs.WrittenLists.{grown_at}
 use Rattle.snap_recover.specs.Logs.{all_of, is_genesis, geneses}
-use Rattle.log_compact.specs.Points.{Point, point_told, IsPlain, is_plain, plains}
-use Rattle.log_compact.specs.Sets.{point_in, restated, without_point, plain_lists}
+use Rattle.log_compact.specs.Points.{plains}
+use Rattle.log_compact.specs.Sets.{plain_lists}
+use Rattle.compact_laws.proofs.ListsGrown.{plain_grown}
 use Rattle.followed_logs.specs.OnRecords.{IsRunsFront, in_first, Finding, lists_found}
 use Rattle.followed_logs.proofs.Written.{OnlyGenesis}
-
--- ---- a run writes no checkpoint
-
-told_plain : (r : LogRecord) → IsPlain (told r)
-told_plain (BatchInfo k actors tids) = refl
-told_plain (BatchComplete k a st) = refl
-told_plain (BatchDone k vs) = refl
-told_plain (ActPrepare t a st) = refl
-told_plain (ActDone t m c v actors) = refl
-
-told_plains : (rs : List LogRecord) → plains (all_told rs) ≡ all_told rs
-told_plains [] = refl
-told_plains (BatchInfo k actors tids ∷ rs) = ap (λ z. told (BatchInfo k actors tids) ∷ z) (told_plains rs)
-told_plains (BatchComplete k a st ∷ rs) = ap (λ z. told (BatchComplete k a st) ∷ z) (told_plains rs)
-told_plains (BatchDone k vs ∷ rs) = ap (λ z. told (BatchDone k vs) ∷ z) (told_plains rs)
-told_plains (ActPrepare t a st ∷ rs) = ap (λ z. told (ActPrepare t a st) ∷ z) (told_plains rs)
-told_plains (ActDone t m c v actors ∷ rs) = ap (λ z. told (ActDone t m c v actors) ∷ z) (told_plains rs)
-
-plains_join : (xs : List Record) (rs : List LogRecord) → plains (xs ++ all_told rs) ≡ plains xs ++ all_told rs
-plains_join [] rs = told_plains rs
-plains_join (x ∷ xs) rs = by (is_plain x) (plains_join xs rs)
-  where
-    by : (b : Bool) → plains (xs ++ all_told rs) ≡ plains xs ++ all_told rs → (if b then x ∷ plains (xs ++ all_told rs) else plains (xs ++ all_told rs)) ≡ (if b then x ∷ plains xs else plains xs) ++ all_told rs
-    by true same = ap (λ z. x ∷ z) same
-    by false same = same
-
--- so only the one that stood in second place before stands there now
-same_point : (xs : List Record) (rs : List LogRecord) → point_in (xs ++ all_told rs) ≡ point_in xs
-same_point [] [] = refl
-same_point [] (r ∷ []) = refl
-same_point [] (BatchInfo k actors tids ∷ r ∷ rs) = refl
-same_point [] (BatchComplete k a st ∷ r ∷ rs) = refl
-same_point [] (BatchDone k vs ∷ r ∷ rs) = refl
-same_point [] (ActPrepare t a st ∷ r ∷ rs) = refl
-same_point [] (ActDone t m c v actors ∷ r ∷ rs) = refl
-same_point (x ∷ []) [] = refl
-same_point (x ∷ []) (r ∷ rs) = by (is_genesis x)
-  where
-    by : (b : Bool) → (if b then point_told (told r) else None) ≡ None
-    by true = told_plain r
-    by false = refl
-same_point (x ∷ y ∷ xs) rs = refl
-
-without_join : (xs : List Record) (rs : List LogRecord) (p : Option Point) → point_in xs ≡ p → without_point (xs ++ all_told rs) p ≡ without_point xs p ++ all_told rs
-without_join xs rs None e = plains_join xs rs
-without_join [] rs (Some p) e = absurd (cc e)
-without_join (x ∷ []) rs (Some p) e = absurd (cc e)
-without_join (x ∷ y ∷ xs) rs (Some p) e = ap (λ z. map (restated p.states) (x ∷ []) ++ z) (plains_join xs rs)
-
-plains_grown : (n : ℕ) (lists : List (List Record)) (logs : ℕ → List LogRecord) → map plains (grown_from n lists logs) ≡ grown_from n (map plains lists) logs
-plains_grown n [] logs = refl
-plains_grown n (xs ∷ lists) logs =
-    ap (λ z. z ∷ map plains (grown_from (n + 1) lists logs)) (plains_join xs (logs n))
-    ∙ ap (λ z. (plains xs ++ all_told (logs n)) ∷ z) (plains_grown (n + 1) lists logs)
-
-plain_grown : (lists : List (List Record)) (logs : ℕ → List LogRecord) → plain_lists (grown lists logs) ≡ grown (plain_lists lists) logs
-plain_grown [] logs = refl
-plain_grown (xs ∷ lists) logs =
-    ap (λ z. z ∷ map plains (grown_from 1 lists logs)) (ap (without_point (xs ++ all_told (logs 0))) (same_point xs (logs 0)) ∙ without_join xs (logs 0) (point_in xs) refl)
-    ∙ ap (λ z. (without_point xs (point_in xs) ++ all_told (logs 0)) ∷ z) (plains_grown 1 lists logs)
 
 -- ---- the records in front
 
