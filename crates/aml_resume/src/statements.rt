@@ -33,6 +33,7 @@ fn begin(statements: &mut u16) -> Result<(), Code>
 }
 
 /// Counts a statement, and computes the expression that it begins with.
+#[inline(always)]
 pub(crate) fn counted(
     own: usize,
     variables: &[i64],

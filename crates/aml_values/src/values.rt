@@ -45,6 +45,7 @@ fn remainder(left: i64, right: i64) -> Result<i64, Code>
     left.checked_rem(right).ok_or(OVERFLOW)
 }
 
+#[inline(always)]
 fn joined(operator: Operator, left: i64, right: i64) -> Result<i64, Code>
     ensures { result ≡ joined operator left right }
 {
@@ -66,6 +67,7 @@ fn joined(operator: Operator, left: i64, right: i64) -> Result<i64, Code>
 }
 
 /// The truth that the left side decides alone.
+#[inline(always)]
 fn decided(operator: Operator, left: i64) -> Option<i64>
     ensures { result ≡ decided operator left }
 {
@@ -96,8 +98,10 @@ fn closed_link(
     ensures { IsClosedExpression (length _variables.now) (expression_tree _link.now.operand) }
 {}
 
-/// What an expression gives, or the code of a failure: a result outside signed 64 bits, or a divisor 0.
+/// What an expression gives, or the code of a failure: a result outside signed 64 bits, or a divisor 0. It is inlined where
+/// a statement runs, and operands that are no expressions of their own are read in place.
 #[cycle(values)]
+#[inline(always)]
 pub fn value(own: usize, variables: &[i64], state: &State, e: &Expression<u8>) -> Result<i64, Code>
     requires small { own < 2 ^ 63 }
     requires closed { IsClosedExpression (length variables.now) (expression_tree e.now) }
@@ -108,21 +112,52 @@ pub fn value(own: usize, variables: &[i64], state: &State, e: &Expression<u8>) -
         Expression::Variable(place) => Ok(variables[*place as usize]),
         Expression::Field { field, line: _ } => Ok(state.0[*field as usize]),
         Expression::Own => Ok(own as i64),
-        Expression::Group(inner) => value(own, variables, state, inner),
+        Expression::Group(inner) => part(own, variables, state, inner),
         Expression::Negative(inner) => {
-            let positive = value(own, variables, state, inner)?;
+            let positive = operand(own, variables, state, inner)?;
             positive.checked_neg().ok_or(OVERFLOW)
         }
         Expression::Chain { first, rest } => {
             closed_parts(variables, first, rest);
-            let head = value(own, variables, state, first)?;
+            let head = operand(own, variables, state, first)?;
             chain(own, variables, state, head, rest)
+        }
+    }
+}
+
+/// What an expression inside another gives.
+#[cycle(values)]
+#[inline(never)]
+fn part(own: usize, variables: &[i64], state: &State, e: &Expression<u8>) -> Result<i64, Code>
+    requires small { own < 2 ^ 63 }
+    requires closed { IsClosedExpression (length variables.now) (expression_tree e.now) }
+    ensures { result ≡ value_of own variables.now state.now (expression_tree e.now) }
+{
+    value(own, variables, state, e)
+}
+
+/// What an operand gives.
+#[cycle(values)]
+#[inline(always)]
+fn operand(own: usize, variables: &[i64], state: &State, e: &Expression<u8>) -> Result<i64, Code>
+    requires small { own < 2 ^ 63 }
+    requires closed { IsClosedExpression (length variables.now) (expression_tree e.now) }
+    ensures { result ≡ value_of own variables.now state.now (expression_tree e.now) }
+{
+    match e {
+        Expression::Number(number) => Ok(*number as i64),
+        Expression::Variable(place) => Ok(variables[*place as usize]),
+        Expression::Field { field, line: _ } => Ok(state.0[*field as usize]),
+        Expression::Own => Ok(own as i64),
+        Expression::Group(_) | Expression::Negative(_) | Expression::Chain { .. } => {
+            part(own, variables, state, e)
         }
     }
 }
 
 /// What operators with their operands make of a value.
 #[cycle(values)]
+#[inline(always)]
 fn chain(
     own: usize,
     variables: &[i64],
@@ -143,22 +178,23 @@ fn chain(
 }
 
 #[cycle(values)]
+#[inline(always)]
 fn one_link(
     own: usize,
     variables: &[i64],
     state: &State,
     left: i64,
     operator: Operator,
-    operand: &Expression<u8>,
+    e: &Expression<u8>,
 ) -> Result<i64, Code>
     requires small { own < 2 ^ 63 }
-    requires closed { IsClosedExpression (length variables.now) (expression_tree operand.now) }
-    ensures { result ≡ linked own variables.now state.now operator (expression_tree operand.now) left }
+    requires closed { IsClosedExpression (length variables.now) (expression_tree e.now) }
+    ensures { result ≡ linked own variables.now state.now operator (expression_tree e.now) left }
 {
     match decided(operator, left) {
         Some(truth) => Ok(truth),
         None => {
-            let right = value(own, variables, state, operand)?;
+            let right = operand(own, variables, state, e)?;
             joined(operator, left, right)
         }
     }
