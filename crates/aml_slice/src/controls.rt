@@ -8,7 +8,7 @@ use std::marker::Model;
 /// What is left of a transaction, with all the memory that it will need. Contracts see it as the rest of
 /// its transaction: the calls that are open and what of its limits is left.
 pub struct Control {
-    running: Running,
+    running: Box<Running>,
 }
 
 // Written out, so that a crate above calls it and does not repeat it.
@@ -25,9 +25,9 @@ impl Model for Control {
 
     ghost use Rattle.aml_slice.specs.Views.{rest_of, HasRooms};
 
-    ghost view = { λ c. rest_of c.running };
+    ghost view = { λ c. rest_of c.running.value };
 
-    ghost invariant = { λ c. HasRooms c.running };
+    ghost invariant = { λ c. HasRooms c.running.value };
 }
 
 impl Control {
@@ -35,16 +35,16 @@ impl Control {
     ghost use Rattle.aml_slice.specs.Controls.{RestsOn, moves_left};
     ghost use Rattle.aml_slice.specs.Views.{rest_of, HasRooms};
 
-    pub(crate) fn of(running: Running) -> Self
-        requires { HasRooms running }
-        ensures { result ≡ rest_of running }
+    pub(crate) fn of(running: Box<Running>) -> Self
+        requires { HasRooms running.value }
+        ensures { result ≡ rest_of running.value }
     {
         Control { running }
     }
 
-    pub(crate) fn into_running(self) -> Running
-        ensures rest { rest_of result ≡ self }
-        ensures rooms { HasRooms result }
+    pub(crate) fn into_running(self) -> Box<Running>
+        ensures rest { rest_of result.value ≡ self }
+        ensures rooms { HasRooms result.value }
     {
         let Control { running } = self;
         running

@@ -76,12 +76,12 @@ fn with_root(alloc: Global, tx: &Tx) -> Result<Allowance, Memory>
 }
 
 /// A transaction's root at its beginning.
-fn root(alloc: Global, tid: Tid, tx: &Tx) -> Result<Running, Memory>
+fn root(alloc: Global, tid: Tid, tx: &Tx) -> Result<Box<Running>, Memory>
     requires transaction { (p : List CheckedMethod) × (actors : ℕ) × IsTransaction p actors tx.now }
     requires few { length tx.now.args ≤ MOST_NAMES }
-    ensures admitted { IfOk result (λ r. (w : List State) → admitted tx.now.actor.0 (beginning w tx.now) ≡ Ok (progress_in (rest_of r) w)) }
-    ensures frames { IfOk result (λ r. ((rest_of r).top ≡ fresh tx.now.actor.0 tx.now.method tx.now.args) × ((rest_of r).waiting ≡ []) × (r.tid ≡ tid)) }
-    ensures rooms { IfOk result HasRooms }
+    ensures admitted { IfOk result (λ r. (w : List State) → admitted tx.now.actor.0 (beginning w tx.now) ≡ Ok (progress_in (rest_of r.value) w)) }
+    ensures frames { IfOk result (λ r. ((rest_of r.value).top ≡ fresh tx.now.actor.0 tx.now.method tx.now.args) × ((rest_of r.value).waiting ≡ []) × (r.value.tid ≡ tid)) }
+    ensures rooms { IfOk result (λ r. HasRooms r.value) }
 {
     let top = Frame {
         actor: tx.actor.0,
@@ -90,14 +90,15 @@ fn root(alloc: Global, tid: Tid, tx: &Tx) -> Result<Running, Memory>
     };
     let allowance = with_root(alloc, tx)?;
     let frames = allowance.frames_to_come();
-    Ok(Running {
+    let running = Running {
         tid,
         top,
         waiting: SavedFrames::with_room(alloc, frames)?,
         arguments: Vec::with_capacity(alloc, MOST_NAMES)?,
         statements: 0,
         allowance,
-    })
+    };
+    Ok(Box::new(alloc, running)?)
 }
 
 impl Control {

@@ -7,11 +7,11 @@ use Rattle.aml_slice.proofs.slices.slice.Given as goal
 
 abbrev pub invariant-loop-result : goal.invariant-loop-result
 invariant-loop-result l = record {
-  rest : IsRest (methods_of l.program) l.actors (rest_of l.running);
-  rooms : HasRooms l.running;
-  exact : SlicesFrom (methods_of l.program) l.actors l.fn.control l.initial.state (rest_of l.running) l.state;
+  rest : IsRest (methods_of l.program) l.actors (rest_of l.running.value);
+  rooms : HasRooms l.running.value;
+  exact : SlicesFrom (methods_of l.program) l.actors l.fn.control l.initial.state (rest_of l.running.value) l.state;
   own : l.own ≡ l.fn.control.top.actor;
 }
 
 abbrev pub decreases-loop-result : goal.decreases-loop-result
-decreases-loop-result l = moves_left (rest_of l.running)
+decreases-loop-result l = moves_left (rest_of l.running.value)
