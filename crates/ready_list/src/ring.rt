@@ -66,6 +66,9 @@ impl Ring {
     pub(crate) fn pieces(&self) -> (&[Event], &[Event])
         ensures { map event_meant (result.0.now ++ result.1.now) ≡ self.now.events }
     {
+        if self.events.is_empty() {
+            return (&[], &[]);
+        }
         self.events.as_slices()
     }
 
@@ -74,6 +77,9 @@ impl Ring {
         requires { (k : ℕ) × AreOfKind k self.now.events }
         ensures { map event_meant (result.0.now ++ result.1.now) ≡ filter (λ f. first_of f == number) self.now.events }
     {
+        if self.events.is_empty() {
+            return (&[], &[]);
+        }
         let (head, tail) = self.events.as_slices();
         (with_number(head, number), with_number(tail, number))
     }
