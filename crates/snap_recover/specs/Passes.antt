@@ -1,6 +1,6 @@
 -- Only private contracts cite this; the rule is specs/Opening.antt.
 -- What a pass over one log gives. The log is number `log` of `logs`.
-use Rattle.std.specs.Prelude.{◌≡◌, ◌≢◌, ℕ, ℤ, ◌%◌, ◌<◌, ◌⊎◌, Option, Some, None, List, [], ◌∷◌, ◌++◌, length, slice_index_or, Contains, IsTrue, ◌↔◌, cond, ◌==◌, ⊤}
+use Rattle.std.specs.Prelude.{◌≡◌, ◌≢◌, ℕ, ℤ, ◌%◌, ◌<◌, ◌⊎◌, Option, Some, None, List, [], ◌∷◌, ◌++◌, length, slice_index_or, Contains, ◌↔◌, cond, ◌==◌, ⊤}
 use Rattle.std.specs.List.{AllByRecursion}
 use Rattle.std.specs.declared.cmp.Ordering.{Ordering}
 use Rattle.std.specs.Ordering.{nat_cmp, ordering_then}
@@ -21,7 +21,7 @@ use Rattle.snap_recover.specs.declared.openings.Kept.{Kept}
 use Rattle.snap_recover.specs.declared.openings.Kept.TheVariants as kept
 use Rattle.snap_recover.specs.declared.refusals.RecoverNo.{RecoverNo}
 use Rattle.snap_recover.specs.declared.refusals.RecoverNo.TheVariants.{NoGenesis, TwoGenesis, LogCount, Range, Missing, Values, Memory}
-use Rattle.snap_recover.specs.Opening.{greatest, IsBatchWhole, IsIn, IsActIn, IsActWhole, IsActOf, HasItsValues, act_record, IsKeptIn}
+use Rattle.snap_recover.specs.Opening.{IsBatchWhole, IsIn, IsActIn, IsActWhole, IsActOf, HasItsValues, act_record, IsKeptIn}
 use Rattle.snap_recover.specs.Refusals.{LacksInfo, LacksComplete, LacksPrepare, LacksValues, IsFirstBatchLacking, IsFirstActLacking, IsFirstLacking, IsFirstLackingValues}
 
 abbrev pub bid_at : ℕ → Bid
@@ -301,9 +301,3 @@ pub record HasSpots (logs : List (List Record)) (spots : List Spot) : Type 0 whe
 pub record IsKeptAt (logs : List (List Record)) (x : Spot) (k : Kept) : Type 0 where
   pub at : spot_of k ≡ x
   pub is_kept : IsKeptIn logs k
-
--- ---- next numbers
-
--- whatever is given of a record is the greatest of these numbers of it
-abbrev pub GivesGreatest : (Record → ℕ → Type 0) → (Record → List ℕ) → Type 0
-GivesGreatest Gives numbers = (r : Record) (n : ℕ) → Gives r n → n ≡ greatest (numbers r)

@@ -19,6 +19,14 @@ use txn_records::Record;
 /// behind it, the number of its commit, and its tid. Of a batch the last two are 0.
 type Spot = (u64, u8, u64, u64);
 
+/// Where the records of what was kept last were found, in the lists of places.
+#[derive(Drop)]
+struct Near {
+    infos: usize,
+    commits: usize,
+    acts: usize,
+}
+
 /// What is kept of all that is in, in the order of the places, where nothing of it is lacking.
 pub(crate) fn keep_all(
     alloc: Global,
@@ -43,9 +51,22 @@ pub(crate) fn keep_all(
         &acts.committed,
         &acts.infos,
     )?;
-    let mut kept = Sequence::new(alloc);
+    let mut kept = Sequence::from_vec(Vec::with_capacity(alloc, spots.len())?);
+    let mut near = Near {
+        infos: 0,
+        commits: 0,
+        acts: 0,
+    };
     for i in 0..spots.len() {
-        let next = keep(alloc, logs, spots[i], &batches.infos, commits, &acts.infos)?;
+        let next = keep(
+            alloc,
+            logs,
+            spots[i],
+            &batches.infos,
+            commits,
+            &acts.infos,
+            &mut near,
+        )?;
         kept.push(next)?;
     }
     Ok(kept)
@@ -94,21 +115,27 @@ fn add_acts(
     requires infos { HasInfos (info_key kinds.Act) logs.now infos.now }
     ensures { OnOk result (AddsSpots (IsActSpot logs.now) tids.now spots.old.items spots.new.items) }
 {
+    let mut near = 0;
     for i in 0..tids.len() {
-        let spot = spot_of_act(logs, tids[i], infos);
+        let spot = spot_of_act(logs, tids[i], infos, &mut near);
         spots.push(spot)?;
     }
     Ok(())
 }
 
 /// The spot of an undeclared transaction that is in.
-fn spot_of_act(logs: &[Sequence<Record>], tid: u64, infos: &[(u64, usize)]) -> Spot
+fn spot_of_act(
+    logs: &[Sequence<Record>],
+    tid: u64,
+    infos: &[(u64, usize)],
+    near: &mut usize,
+) -> Spot
     requires some { 0 < length logs.now }
     requires is_in { IsActIn logs.now (tid_at tid) }
     requires infos { HasInfos (info_key kinds.Act) logs.now infos.now }
     ensures { IsActSpot logs.now tid result }
 {
-    let Some(place) = place_of(infos, tid) else {
+    let Some(place) = place_of(infos, tid, near) else {
         unreachable!()
     };
     let log = tid % logs.len() as u64;
@@ -124,6 +151,7 @@ fn keep(
     infos: &[(u64, usize)],
     commits: &[(u64, usize)],
     acts: &[(u64, usize)],
+    near: &mut Near,
 ) -> Result<Kept, Memory>
     requires some { 0 < length logs.now }
     requires whole { IsAllWhole logs.now }
@@ -134,20 +162,20 @@ fn keep(
     ensures { IfOk result (λ k. IsKeptAt logs.now spot k) }
 {
     if spot.1 == 0 {
-        return keep_batch(alloc, logs, spot.0, infos, commits);
+        return keep_batch(alloc, logs, spot.0, infos, commits, near);
     }
-    Ok(keep_act(logs, spot, acts))
+    Ok(keep_act(logs, spot, acts, &mut near.acts))
 }
 
 /// What is kept of an undeclared transaction that is in.
-fn keep_act(logs: &[Sequence<Record>], spot: Spot, infos: &[(u64, usize)]) -> Kept
+fn keep_act(logs: &[Sequence<Record>], spot: Spot, infos: &[(u64, usize)], near: &mut usize) -> Kept
     requires some { 0 < length logs.now }
     requires is_in { IsSpotIn logs.now spot }
     requires is_act { spot.1 ≢ 0 }
     requires infos { HasInfos (info_key kinds.Act) logs.now infos.now }
     ensures { IsKeptAt logs.now spot result }
 {
-    let (tid, m, c, value) = outcome_of(logs, spot.3, infos);
+    let (tid, m, c, value) = outcome_of(logs, spot.3, infos, near);
     Kept::Act { tid, m, c, value }
 }
 
@@ -156,13 +184,14 @@ fn outcome_of(
     logs: &[Sequence<Record>],
     tid: u64,
     infos: &[(u64, usize)],
+    near: &mut usize,
 ) -> (Tid, Bid, u64, Option<i64>)
     requires some { 0 < length logs.now }
     requires is_in { IsActIn logs.now (tid_at tid) }
     requires infos { HasInfos (info_key kinds.Act) logs.now infos.now }
     ensures { (result.0 ≡ tid_at tid) × ((actors : List ActorId) × IsActOf logs.now (tid_at tid) result.1 result.2 result.3 actors) }
 {
-    let Some(place) = place_of(infos, tid) else {
+    let Some(place) = place_of(infos, tid, near) else {
         unreachable!()
     };
     let log = tid % logs.len() as u64;
@@ -177,6 +206,7 @@ fn keep_batch(
     bid: u64,
     infos: &[(u64, usize)],
     commits: &[(u64, usize)],
+    near: &mut Near,
 ) -> Result<Kept, Memory>
     requires some { 0 < length logs.now }
     requires whole { IsBatchWhole logs.now (bid_at bid) }
@@ -185,8 +215,8 @@ fn keep_batch(
     requires commits { HasInfos (commit_key kinds.Batch) logs.now commits.now }
     ensures { IfOk result (λ k. IsKeptAt logs.now (bid, 0, 0, 0) k) }
 {
-    let values = values_of(alloc, logs, bid, commits)?;
-    let tids = tids_of(alloc, logs, bid, infos)?;
+    let values = values_of(alloc, logs, bid, commits, &mut near.commits)?;
+    let tids = tids_of(alloc, logs, bid, infos, &mut near.infos)?;
     Ok(Kept::Batch {
         bid: Bid(bid),
         tids,
@@ -200,13 +230,14 @@ fn tids_of(
     logs: &[Sequence<Record>],
     bid: u64,
     infos: &[(u64, usize)],
+    near: &mut usize,
 ) -> Result<Sequence<Tid>, Memory>
     requires some { 0 < length logs.now }
     requires whole { IsBatchWhole logs.now (bid_at bid) }
     requires infos { HasInfos (info_key kinds.Batch) logs.now infos.now }
     ensures { IfOk result (λ tids. (actors : List ActorId) × IsInfoOf logs.now (bid_at bid) actors tids) }
 {
-    let Some(place) = place_of(infos, bid) else {
+    let Some(place) = place_of(infos, bid, near) else {
         unreachable!()
     };
     let log = bid % logs.len() as u64;
@@ -220,13 +251,14 @@ fn values_of(
     logs: &[Sequence<Record>],
     bid: u64,
     commits: &[(u64, usize)],
+    near: &mut usize,
 ) -> Result<Sequence<i64>, Memory>
     requires some { 0 < length logs.now }
     requires is_in { IsIn logs.now (bid_at bid) }
     requires commits { HasInfos (commit_key kinds.Batch) logs.now commits.now }
     ensures { IfOk result (λ vs. (r : Record) × IsCommitOf logs.now (bid_at bid) r × (vs ≡ values_in r)) }
 {
-    let Some(place) = place_of(commits, bid) else {
+    let Some(place) = place_of(commits, bid, near) else {
         unreachable!()
     };
     let log = bid % logs.len() as u64;

@@ -1,63 +1,83 @@
 //! The next numbers of batches, transactions and commits: one above all that occur.
-ghost use Rattle.std.specs.Prelude.{◌≡◌, ℕ, ◌+◌, ◌≤◌, max, List, length};
-ghost use Rattle.std.specs.Fn.{FnReturnsAt};
-ghost use Rattle.std.specs.List.{AllByRecursion, flat_map};
-ghost use Rattle.txn_records.specs.declared.records.Record.{Record};
+ghost use Rattle.std.specs.Prelude.{◌≡◌, ◌≤◌, max};
+ghost use Rattle.std.specs.List.{flat_map};
 ghost use Rattle.txn_records.specs.Records.{tid_numbers};
 ghost use Rattle.snap_recover.specs.Logs.{all_of, bids_in, tids_in, commits_in};
-ghost use Rattle.snap_recover.specs.Opening.{IsInRange, greatest, next_of};
-ghost use Rattle.snap_recover.specs.Passes.{GivesGreatest};
+ghost use Rattle.snap_recover.specs.Opening.{greatest, next_of};
 
 use crate::ranges::GREATEST_NUMBER;
-use snap_base::{Bid, Sequence, Tid};
+use snap_base::{Sequence, Tid};
 use txn_records::Record;
 
-/// One above the numbers of all batches, and at least 1.
-pub(crate) fn next_bid(logs: &[Sequence<Record>]) -> Bid
-    requires small { greatest (flat_map bids_in (all_of logs.now)) ≤ GREATEST_NUMBER }
-    ensures { result.0 ≡ next_of bids_in logs.now }
-{
-    Bid(greatest_over(logs, bid_number) + 1)
+/// Numbers of transactions, batches and commits.
+#[derive(Clone, Copy)]
+pub(crate) struct Numbers {
+    pub tid: u64,
+    pub bid: u64,
+    pub commit: u64,
 }
 
-/// One above the identifiers of all transactions, and at least 1.
-pub(crate) fn next_tid(logs: &[Sequence<Record>]) -> Tid
-    requires small { greatest (flat_map tids_in (all_of logs.now)) ≤ GREATEST_NUMBER }
-    ensures { result.0 ≡ next_of tids_in logs.now }
+/// Where there is no record.
+const NONE: Numbers = Numbers {
+    tid: 0,
+    bid: 0,
+    commit: 0,
+};
+
+/// One above all numbers in the logs, each at least 1.
+pub(crate) fn next_numbers(logs: &[Sequence<Record>]) -> Numbers
+    requires tids { greatest (flat_map tids_in (all_of logs.now)) ≤ GREATEST_NUMBER }
+    requires bids { greatest (flat_map bids_in (all_of logs.now)) ≤ GREATEST_NUMBER }
+    requires commits { greatest (flat_map commits_in (all_of logs.now)) ≤ GREATEST_NUMBER }
+    ensures tid { result.tid ≡ next_of tids_in logs.now }
+    ensures bid { result.bid ≡ next_of bids_in logs.now }
+    ensures commit { result.commit ≡ next_of commits_in logs.now }
 {
-    Tid(greatest_over(logs, tid_number) + 1)
+    let most = greatest_over(logs);
+    Numbers {
+        tid: most.tid + 1,
+        bid: most.bid + 1,
+        commit: most.commit + 1,
+    }
 }
 
-/// One above all commit numbers, and at least 1.
-pub(crate) fn next_commit(logs: &[Sequence<Record>]) -> u64
-    requires small { greatest (flat_map commits_in (all_of logs.now)) ≤ GREATEST_NUMBER }
-    ensures { result ≡ next_of commits_in logs.now }
+/// The greatest numbers in the records of all logs, and 0 where none occurs.
+fn greatest_over(logs: &[Sequence<Record>]) -> Numbers
+    ensures tid { result.tid ≡ greatest (flat_map tids_in (all_of logs.now)) }
+    ensures bid { result.bid ≡ greatest (flat_map bids_in (all_of logs.now)) }
+    ensures commit { result.commit ≡ greatest (flat_map commits_in (all_of logs.now)) }
 {
-    greatest_over(logs, commit_number) + 1
-}
-
-/// The greatest of the numbers that the function gives of the records of all logs, and 0 where there is no record.
-fn greatest_over<F: Fn(&Record) -> u64>(logs: &[Sequence<Record>], number_of: F) -> u64
-    requires { F.IsAlwaysCallable number_of }
-    ensures { (numbers : Record → List ℕ) → GivesGreatest (FnReturnsAt F.Fn number_of) numbers → result ≡ greatest (flat_map numbers (all_of logs.now)) }
-{
-    let mut most = 0;
+    let mut most = NONE;
     for rs in logs {
-        most = greatest_in(most, rs.as_slice(), &number_of);
+        most = greatest_in(most, rs.as_slice());
     }
     most
 }
 
-/// The greatest of the number and those that the function gives of the records of one log.
-fn greatest_in<F: Fn(&Record) -> u64>(so_far: u64, rs: &[Record], number_of: &F) -> u64
-    requires { F.IsAlwaysCallable number_of.now }
-    ensures { (numbers : Record → List ℕ) → GivesGreatest (FnReturnsAt F.Fn number_of.now) numbers → result ≡ max so_far (greatest (flat_map numbers rs.now)) }
+/// The greatest of the numbers and of those in the records of one log.
+fn greatest_in(so_far: Numbers, rs: &[Record]) -> Numbers
+    ensures tid { result.tid ≡ max so_far.tid (greatest (flat_map tids_in rs.now)) }
+    ensures bid { result.bid ≡ max so_far.bid (greatest (flat_map bids_in rs.now)) }
+    ensures commit { result.commit ≡ max so_far.commit (greatest (flat_map commits_in rs.now)) }
 {
     let mut most = so_far;
     for r in rs {
-        most = most.max(number_of(r));
+        most = raised(most, r);
     }
     most
+}
+
+/// The greatest of the numbers and of those in one record.
+fn raised(so_far: Numbers, r: &Record) -> Numbers
+    ensures tid { result.tid ≡ max so_far.tid (greatest (tids_in r.now)) }
+    ensures bid { result.bid ≡ max so_far.bid (greatest (bids_in r.now)) }
+    ensures commit { result.commit ≡ max so_far.commit (greatest (commits_in r.now)) }
+{
+    Numbers {
+        tid: so_far.tid.max(tid_number(r)),
+        bid: so_far.bid.max(bid_number(r)),
+        commit: so_far.commit.max(commit_number(r)),
+    }
 }
 
 /// The number of the batch that the record names, and 0 where it names none.

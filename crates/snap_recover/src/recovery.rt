@@ -12,13 +12,13 @@ use crate::genesis::{count_geneses, first_genesis};
 use crate::index::{Index, index_of};
 use crate::keeping::keep_all;
 use crate::kinds::Kind;
-use crate::numbers::{next_bid, next_commit, next_tid};
+use crate::numbers::next_numbers;
 use crate::ranges::check_range;
 use crate::states::states_after;
 use crate::values::check_values;
 use crate::wholes::check_all;
 use crate::{Kept, Opening, RecoverNo};
-use snap_base::{Memory, Sequence, State};
+use snap_base::{Bid, Memory, Sequence, State, Tid};
 use std::alloc::Global;
 use txn_records::Record;
 
@@ -70,12 +70,13 @@ fn opening(alloc: Global, logs: &[Sequence<Record>], first: &[State]) -> Result<
         &found.batches.committed,
         &found.acts.committed,
     )?;
+    let next = next_numbers(logs);
     Ok(Opening {
         states: Sequence::from_vec(states),
         committed: found.kept,
-        next_tid: next_tid(logs),
-        next_bid: next_bid(logs),
-        next_c: next_commit(logs),
+        next_tid: Tid(next.tid),
+        next_bid: Bid(next.bid),
+        next_c: next.commit,
     })
 }
 

@@ -59,11 +59,22 @@ fn replay(
     requires range { AllByRecursion (IsInRange (length states.old.items)) rs.now }
     ensures { Replays log logs (In batches.now) (In acts.now) rs.now states.old.items states.new.items }
 {
+    let mut near = Near {
+        batches: 0,
+        acts: 0,
+    };
     for r in rs {
-        if let Some((actor, state)) = state_here(r, log, logs, batches, acts) {
+        if let Some((actor, state)) = state_here(r, log, logs, batches, acts, &mut near) {
             states[actor] = state;
         }
     }
+}
+
+/// Where the batch and the undeclared transaction of the records before were found.
+#[derive(Drop)]
+struct Near {
+    batches: usize,
+    acts: usize,
 }
 
 /// The actor and the state that the record tells, of one of these batches or of these undeclared transactions, where
@@ -74,6 +85,7 @@ fn state_here(
     logs: u64,
     batches: &[u64],
     acts: &[u64],
+    near: &mut Near,
 ) -> Option<(usize, State)>
     requires some { 0 < logs }
     requires batches { IsStrictlySortedBy nat_cmp batches.now }
@@ -82,14 +94,14 @@ fn state_here(
 {
     match r {
         Record::BatchComplete { bid, actor, state } => {
-            if actor.0 as u64 % logs == log && has_number(batches, bid.0) {
+            if actor.0 as u64 % logs == log && has_number(batches, bid.0, &mut near.batches) {
                 Some((actor.0 as usize, *state))
             } else {
                 None
             }
         }
         Record::ActPrepare { tid, actor, state } => {
-            if actor.0 as u64 % logs == log && has_number(acts, tid.0) {
+            if actor.0 as u64 % logs == log && has_number(acts, tid.0, &mut near.acts) {
                 Some((actor.0 as usize, *state))
             } else {
                 None

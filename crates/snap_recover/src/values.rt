@@ -26,10 +26,21 @@ pub(crate) fn check_values(
     requires commits { HasInfos (commit_key kinds.Batch) logs.now commits.now }
     ensures { MatchResult result (λ t. AllValued logs.now) (λ no. IsFirstValuesLackOf logs.now no) }
 {
+    let mut near = Near {
+        infos: 0,
+        commits: 0,
+    };
     for i in 0..committed.len() {
-        check_batch(logs, committed[i], infos, commits)?;
+        check_batch(logs, committed[i], infos, commits, &mut near)?;
     }
     Ok(())
+}
+
+/// Where the records of the batch before were found, in the lists of places.
+#[derive(Drop)]
+struct Near {
+    infos: usize,
+    commits: usize,
 }
 
 /// That a batch that is in has one value for each of its transactions, or none is told.
@@ -38,6 +49,7 @@ fn check_batch(
     number: u64,
     infos: &[(u64, usize)],
     commits: &[(u64, usize)],
+    near: &mut Near,
 ) -> Result<(), RecoverNo>
     requires some { 0 < length logs.now }
     requires few { length logs.now < 256 }
@@ -47,10 +59,10 @@ fn check_batch(
     requires commits { HasInfos (commit_key kinds.Batch) logs.now commits.now }
     ensures { MatchResult result (λ t. HasItsValues logs.now (bid_at number)) (λ no. IsValuesLackOf logs.now number no) }
 {
-    let Some(place) = place_of(infos, number) else {
+    let Some(place) = place_of(infos, number, &mut near.infos) else {
         unreachable!()
     };
-    let Some(commit) = place_of(commits, number) else {
+    let Some(commit) = place_of(commits, number, &mut near.commits) else {
         unreachable!()
     };
     let log = number % logs.len() as u64;

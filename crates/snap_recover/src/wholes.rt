@@ -57,10 +57,18 @@ fn check_kind(
     requires infos { HasInfos (info_key kind) logs.now infos.now }
     ensures { MatchResult result (λ t. AllWhole kind logs.now) (λ no. IsFirstLackOfKind kind logs.now no) }
 {
+    let mut near = Near { infos: 0, parts: 0 };
     for i in 0..committed.len() {
-        check(kind, logs, committed[i], parts, infos)?;
+        check(kind, logs, committed[i], parts, infos, &mut near)?;
     }
     Ok(())
+}
+
+/// Where the records of the number before were found, in the lists of places and of parts.
+#[derive(Drop)]
+struct Near {
+    infos: usize,
+    parts: usize,
 }
 
 /// That nothing is lacking of one that is in.
@@ -70,6 +78,7 @@ fn check(
     number: u64,
     parts: &[(u64, u16)],
     infos: &[(u64, usize)],
+    near: &mut Near,
 ) -> Result<(), RecoverNo>
     requires some { 0 < length logs.now }
     requires few { length logs.now < 256 }
@@ -80,14 +89,14 @@ fn check(
 {
     let count = logs.len() as u64;
     let log = number % count;
-    let Some(place) = place_of(infos, number) else {
+    let Some(place) = place_of(infos, number, &mut near.infos) else {
         return Err(RecoverNo::Missing {
             key: key_of_info(kind, number),
             log: log as u8,
         });
     };
     let actors = actors_at(kind, logs[log as usize].as_slice(), place, number);
-    if let Some(actor) = first_lacking(actors.as_slice(), number, parts) {
+    if let Some(actor) = first_lacking(actors.as_slice(), number, parts, &mut near.parts) {
         return Err(RecoverNo::Missing {
             key: key_of_part(kind, number, actor),
             log: (actor.0 as u64 % count) as u8,
@@ -115,12 +124,17 @@ fn key_of_part(kind: Kind, number: u64, actor: ActorId) -> Key
 }
 
 /// The first of the actors that has not done its part.
-fn first_lacking(actors: &[ActorId], number: u64, parts: &[(u64, u16)]) -> Option<ActorId>
+fn first_lacking(
+    actors: &[ActorId],
+    number: u64,
+    parts: &[(u64, u16)],
+    near: &mut usize,
+) -> Option<ActorId>
     requires ascend { IsStrictlySortedBy pair_cmp parts.now }
     ensures { MatchOption result (AllByRecursion (λ a. InPair parts.now (number, a.0)) actors.now) (λ a. (front behind : List ActorId) × (actors.now ≡ front ++ a ∷ behind) × AllByRecursion (λ b. InPair parts.now (number, b.0)) front × ¬ InPair parts.now (number, a.0)) }
 {
     for actor in actors {
-        if !has_pair(parts, (number, actor.0)) {
+        if !has_pair(parts, (number, actor.0), near) {
             return Some(*actor);
         }
     }

@@ -1,9 +1,14 @@
-use Rattle.std.proofs.Common.{refl, arith}
-use Rattle.std.proofs.iter.Next.{says_at}
+use Rattle.std.proofs.Common.{ℕ, List, arith}
+use Rattle.txn_records.specs.declared.records.Record.{Record}
+use Rattle.snap_recover.specs.Logs.{bids_in, tids_in, commits_in}
 use Rattle.snap_recover.proofs.Steps.{greatest_step}
 use Rattle.snap_recover.proofs.numbers.greatest_in.Goals as goal
 
 pub loop-r-preserved : goal.loop-r-preserved
-loop-r-preserved g c = λ numbers gives.
-    let here = gives c.r-item.result c.number_of.result (says_at g.F.Fn c.number_of.ensures refl) in
-    omega (arith, greatest_step numbers c.args.rs.now c.loop-r.r-index c.r-item.result c.loop-r-test.true c.r-item.is, c.loop-r.invariant numbers gives, here)
+loop-r-preserved c =
+    let step = λ (numbers : Record → List ℕ). greatest_step numbers c.args.rs.now c.loop-r.r-index c.r-item.result c.loop-r-test.true c.r-item.is in
+    record {
+      tid = omega (arith, step tids_in, c.loop-r.invariant.tid, c.raised-most.ensures.tid);
+      bid = omega (arith, step bids_in, c.loop-r.invariant.bid, c.raised-most.ensures.bid);
+      commit = omega (arith, step commits_in, c.loop-r.invariant.commit, c.raised-most.ensures.commit);
+    }
