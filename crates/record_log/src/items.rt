@@ -37,7 +37,10 @@ pub fn records_of(alloc: Global, items: &[LogItem]) -> Result<Sequence<Record>, 
     ensures found { IfOk result (λ rs. AreItemsOf items.now rs) }
     ensures refused { IfErr result (λ no. AreNoRecords items.now no) }
 {
-    let mut records = Sequence::new(alloc);
+    let Ok(room) = Vec::with_capacity(alloc, items.len()) else {
+        return Err(ItemsNo::Memory);
+    };
+    let mut records = Sequence::from_vec(room);
     for item in items {
         match record_of(alloc, item) {
             Ok(record) => records.push(record)?,
