@@ -168,6 +168,10 @@ raised w h e f gone new kept (inr no_way) = inr no_way
 pub none_asked : (w : Fixed Rest) (h : Parts) (e : Event) (gone : List Event) → AreAsked w h e [] gone gone
 none_asked w h e gone = record { out = λ g c. inl c; kept = λ g c. c; asked = λ f c. absurd (none_in f c) }
 
+pub none_of_none : (w : Fixed Rest) (h : Parts) (e : Event) (xs : List code.Event) (gone : List Event) → length xs ≡ 0 → AreAsked w h e (map event_meant xs) gone gone
+none_of_none w h e [] gone q = none_asked w h e gone
+none_of_none w h e (x ∷ xs) gone q = absurd (omega (arith, q))
+
 pub one_asked : (w : Fixed Rest) (h : Parts) (e : Event) (xs : List code.Event) (i : ℕ) (x : code.Event) (old gone new : List Event) → i < length xs → x ≡ get_or xs i x
     → AreAsked w h e (map event_meant (take i xs)) old gone → IsAsked w h e (event_meant x) gone new → AreAsked w h e (map event_meant (take (i + 1) xs)) old new
 one_asked w h e xs i x old gone new within is so_far one = record {

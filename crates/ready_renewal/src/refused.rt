@@ -1,6 +1,7 @@
 //! Which of the kept events an event has refused.
-ghost use Rattle.std.specs.Prelude.{◌≡◌, ◌++◌, map, IfOk, OnOk};
+ghost use Rattle.std.specs.Prelude.{◌≡◌, ◌++◌, false, map, true, IfOk, OnOk};
 ghost use Rattle.core_events.specs.Meant.{event_meant};
+ghost use Rattle.protocol_ready.specs.Refusing.{may_refuse};
 ghost use Rattle.ready_renewal.specs.Asked.{AreAsked, AreRefused, IsAsked, of_kind, of_kinds};
 ghost use Rattle.snap_hand.specs.Hands.{IsHandOf, IsWhole};
 ghost use Rattle.snap_hand.specs.Steps.{OnSomeRun};
@@ -13,11 +14,19 @@ use snap_base::Memory;
 use snap_hand::{Hand, Tables};
 use std::alloc::Global;
 
+/// Whether the event that was just taken can't refuse this one. Where it is sure of all that are gone over, that is not looked at.
+fn is_out_of_reach(reach: &Reach, sure: bool, f: Event) -> bool
+    ensures { result ≡ true → may_refuse (event_meant reach.now.event) (event_meant f) ≡ false }
+{
+    !sure && !reach.may_refuse(f)
+}
+
 /// Asks for an event again, where it may be refused, and adds it where it is.
 fn ask_again(
     tables: &Tables,
     hand: &Hand,
     reach: &Reach,
+    sure: bool,
     f: Event,
     gone: &mut Vec<Event>,
 ) -> Result<(), Memory>
@@ -27,7 +36,7 @@ fn ask_again(
     requires some { OnSomeRun (fixed_of tables.now) hand.now }
     ensures { OnOk result (IsAsked (fixed_of tables.now) hand.now (event_meant reach.now.event) (event_meant f) (map event_meant gone.old.items) (map event_meant gone.new.items)) }
 {
-    if !reach.may_refuse(f) {
+    if is_out_of_reach(reach, sure, f) {
         return Ok(());
     }
     if is_allowed(tables, hand, f) {
@@ -38,10 +47,11 @@ fn ask_again(
 }
 
 /// Asks again for these.
-fn ask_each(
+fn ask_these(
     tables: &Tables,
     hand: &Hand,
     reach: &Reach,
+    sure: bool,
     events: &[Event],
     gone: &mut Vec<Event>,
 ) -> Result<(), Memory>
@@ -52,9 +62,31 @@ fn ask_each(
     ensures { OnOk result (AreAsked (fixed_of tables.now) hand.now (event_meant reach.now.event) (map event_meant events.now) (map event_meant gone.old.items) (map event_meant gone.new.items)) }
 {
     for f in events {
-        ask_again(tables, hand, reach, *f, gone)?;
+        ask_again(tables, hand, reach, sure, *f, gone)?;
     }
     Ok(())
+}
+
+/// Asks again for these. Mostly there are none, and then it costs no call.
+#[inline(always)]
+fn ask_each(
+    tables: &Tables,
+    hand: &Hand,
+    reach: &Reach,
+    sure: bool,
+    events: &[Event],
+    gone: &mut Vec<Event>,
+) -> Result<(), Memory>
+    requires tables { AreTables tables.now }
+    requires places { IsHandOf (fixed_of tables.now) hand.now }
+    requires whole { IsWhole hand.now }
+    requires some { OnSomeRun (fixed_of tables.now) hand.now }
+    ensures { OnOk result (AreAsked (fixed_of tables.now) hand.now (event_meant reach.now.event) (map event_meant events.now) (map event_meant gone.old.items) (map event_meant gone.new.items)) }
+{
+    if events.is_empty() {
+        return Ok(());
+    }
+    ask_these(tables, hand, reach, sure, events, gone)
 }
 
 // Those of this kind, or of these those with this first number, in order, in two pieces.
@@ -73,6 +105,7 @@ fn ask_kind(
     hand: &Hand,
     reach: &Reach,
     list: &ReadyList,
+    sure: bool,
     kind: u8,
     number: Option<u64>,
     gone: &mut Vec<Event>,
@@ -84,8 +117,8 @@ fn ask_kind(
     ensures { OnOk result (AreAsked (fixed_of tables.now) hand.now (event_meant reach.now.event) (of_kind kind number list.now.events) (map event_meant gone.old.items) (map event_meant gone.new.items)) }
 {
     let (head, tail) = pieces(list, kind, number);
-    ask_each(tables, hand, reach, head, gone)?;
-    ask_each(tables, hand, reach, tail, gone)?;
+    ask_each(tables, hand, reach, sure, head, gone)?;
+    ask_each(tables, hand, reach, sure, tail, gone)?;
     Ok(())
 }
 
@@ -95,6 +128,7 @@ fn ask_kinds(
     hand: &Hand,
     reach: &Reach,
     list: &ReadyList,
+    sure: bool,
     kinds: &[u8],
     number: Option<u64>,
     gone: &mut Vec<Event>,
@@ -106,7 +140,7 @@ fn ask_kinds(
     ensures { OnOk result (AreAsked (fixed_of tables.now) hand.now (event_meant reach.now.event) (of_kinds kinds.now number list.now.events) (map event_meant gone.old.items) (map event_meant gone.new.items)) }
 {
     for kind in kinds {
-        ask_kind(tables, hand, reach, list, *kind, number, gone)?;
+        ask_kind(tables, hand, reach, list, sure, *kind, number, gone)?;
     }
     Ok(())
 }
@@ -128,14 +162,33 @@ pub(crate) fn refused(
 {
     let reach = Reach::of(e);
     let mut gone = Vec::new(alloc);
-    ask_kinds(tables, hand, &reach, list, reach.wholly, None, &mut gone)?;
-    ask_kinds(tables, hand, &reach, list, reach.on_actor, None, &mut gone)?;
+    ask_kinds(
+        tables,
+        hand,
+        &reach,
+        list,
+        true,
+        reach.wholly,
+        None,
+        &mut gone,
+    )?;
+    ask_kinds(
+        tables,
+        hand,
+        &reach,
+        list,
+        false,
+        reach.on_actor,
+        None,
+        &mut gone,
+    )?;
     let number = Some(reach.number);
     ask_kinds(
         tables,
         hand,
         &reach,
         list,
+        true,
         reach.numbered,
         number,
         &mut gone,

@@ -1,11 +1,11 @@
-use Rattle.std.proofs.Common.{map, sym, ◌∙◌}
+use Rattle.std.proofs.Common.{map}
 use Rattle.core_events.specs.Meant.{event_meant}
 use Rattle.snap_hand.specs.Tables.{fixed_of}
 use Rattle.ready_renewal.proofs.KeptEvents.{not_reached, still_allowed, now_gone}
 use Rattle.ready_renewal.proofs.refused.ask_again.Goals as goal
 
-pub returns-then-not-may_refuse : goal.returns-then-not-may_refuse
-returns-then-not-may_refuse c = not_reached (fixed_of c.args.tables.now) c.args.hand.now (event_meant c.args.reach.now.event) (event_meant c.args.f) (map event_meant c.args.gone.now.items) (sym c.may_refuse.ensures ∙ c.if-not-may_refuse.true)
+pub returns-then-is_out_of_reach : goal.returns-then-is_out_of_reach
+returns-then-is_out_of_reach c = not_reached (fixed_of c.args.tables.now) c.args.hand.now (event_meant c.args.reach.now.event) (event_meant c.args.f) (map event_meant c.args.gone.now.items) (c.is_out_of_reach.ensures c.if-is_out_of_reach.true)
 
 pub returns-then-is_allowed : goal.returns-then-is_allowed
 returns-then-is_allowed c = still_allowed (fixed_of c.args.tables.now) c.args.hand.now (event_meant c.args.reach.now.event) (event_meant c.args.f) (map event_meant c.args.gone.now.items) (c.is_allowed.ensures.allowed c.if-is_allowed.true)
