@@ -13,7 +13,7 @@ const ROWS: [(usize, u64, u64, Option<u64>); 3] = [
 ];
 
 /// A turn that is held is refused, changes get the numbers from 0 on, and they come out in this order. Each of two workers in
-/// threads records ten thousand changes, and all of them come out once.
+/// threads records ten thousand changes, by turns of one counter and of both at a time, and all of them come out once.
 #[test]
 fn turns_are_taken_as_the_rows_say(rt: HostRuntime) -> Result<(), Fail> {
     for (count, first, last, third_number) in ROWS {
@@ -47,7 +47,7 @@ fn turns_are_taken_as_the_rows_say(rt: HostRuntime) -> Result<(), Fail> {
     }
     let ending = two_workers(&rt, rt.alloc(), 10_000)?;
     assert_eq!(rt; ending.changes.len(), 20_000);
-    let counted = Counter { value: 10_000 };
+    let counted = Counter { value: 5_000 };
     assert_eq!(rt; ending.counters.as_slice(), [counted, counted].as_slice());
     Ok(())
 }

@@ -133,7 +133,8 @@ pub fn two_passes(alloc: Global, count: usize) -> Result<(Told, Ending), Memory>
     Ok((told, ending))
 }
 
-/// Two workers in threads over two counters, each of which adds 1 to them in turn, so many times.
+/// Two workers in threads over two counters, with so many rounds each, by turns one that adds 1 to a counter and one that moves 1 from a
+/// counter to the other.
 pub fn two_workers<R: Threads + Wait + Sync>(
     rt: &R,
     alloc: Global,

@@ -164,10 +164,28 @@ pub fn move_once(
     Some(record_move(turns, pass, from, to, first, second, amount))
 }
 
-/// Adds 1 to the counters in turn, so many times.
+/// A round of a worker: it adds 1 to one of the first two counters or moves 1 from one of them to the other, each of both in turn. It
+/// gives the change's number, where the turns were free.
+fn round(turns: &Turns<Counter>, pass: &mut Pass<Counter>, number: u64) -> Option<u64>
+    requires own { IsOf turns.now pass.old.seat }
+    requires parts { 1 < turns.now.parts }
+    requires idle { HoldsNothing pass.old.seat }
+    ensures own { IsOf turns.now pass.new.seat }
+    ensures idle { HoldsNothing pass.new.seat }
+    ensures splits { splits_of pass.new.seat ≡ splits_of pass.old.seat }
+{
+    match number % 4 {
+        0 => add_once(turns, pass, 0, 1),
+        1 => move_once(turns, pass, 0, 1, 1),
+        2 => add_once(turns, pass, 1, 1),
+        _ => move_once(turns, pass, 1, 0, 1),
+    }
+}
+
+/// So many rounds of a worker, each of which is tried until its turns are free.
 pub fn count<R: Wait>(rt: &R, turns: &Turns<Counter>, pass: &mut Pass<Counter>, times: u64)
     requires own { IsOf turns.now pass.old.seat }
-    requires part { 0 < turns.now.parts }
+    requires parts { 1 < turns.now.parts }
     requires idle { HoldsNothing pass.old.seat }
     ensures own { IsOf turns.now pass.new.seat }
     ensures idle { HoldsNothing pass.new.seat }
@@ -178,8 +196,7 @@ pub fn count<R: Wait>(rt: &R, turns: &Turns<Counter>, pass: &mut Pass<Counter>, 
         if done >= times {
             break;
         }
-        let part = (done % turns.part_count() as u64) as usize;
-        if add_once(turns, pass, part, 1).is_some() {
+        if round(turns, pass, done).is_some() {
             done += 1;
         } else {
             thread::yield_now();
@@ -187,7 +204,7 @@ pub fn count<R: Wait>(rt: &R, turns: &Turns<Counter>, pass: &mut Pass<Counter>, 
     }
 }
 
-/// Adds 1 to the counters in turn, so many times by each pass, with a thread for each pass, of at most eight.
+/// So many rounds by each pass, with a thread for each pass, of at most eight.
 pub fn count_all<R: Threads + Wait + Sync>(
     rt: &R,
     turns: &Turns<Counter>,
@@ -195,7 +212,7 @@ pub fn count_all<R: Threads + Wait + Sync>(
     times: u64,
 )
     requires own { All (λ pass. IsOf turns.now pass.seat) passes.old }
-    requires part { 0 < turns.now.parts }
+    requires parts { 1 < turns.now.parts }
     requires idle { All (λ pass. HoldsNothing pass.seat) passes.old }
     requires whole { All (λ pass. splits_of pass.seat ≡ 0) passes.old }
     ensures own { All (λ pass. IsOf turns.now pass.seat) passes.new }
