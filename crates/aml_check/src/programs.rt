@@ -1,19 +1,27 @@
 //! Programs whose names are resolved, and what may be asked of one.
 
 use crate::places::place_of_method;
+use aml_flat::{FlatProgram, flatten};
 use aml_tree::{Block, Program, Statement};
+use snap_base::Memory;
+use std::alloc::Global;
 use std::marker::Model;
 
 /// A program whose names are resolved: a variable is its place among those that are visible, a called
-/// method its place in the program. Contracts see its methods by the word `methods_of`.
+/// method its place in the program. Contracts see its methods by the word `methods_of`. Beside the tree it keeps flat code that
+/// says the same.
 pub struct Checked {
     program: Program<u8, u16>,
+    flat: FlatProgram,
 }
 
 // Written out, so that a crate above calls it and does not repeat it.
 impl Drop for Checked {
     fn drop(self) {
-        let Checked { program: _program } = self;
+        let Checked {
+            program: _program,
+            flat: _flat,
+        } = self;
     }
 }
 
@@ -24,6 +32,7 @@ impl Model for Checked {
     ghost use Rattle.aml_tree.specs.contracts.trees.Statement as statement;
     ghost use Rattle.aml_tree.specs.declared.trees.Program.{Program};
     ghost use Rattle.aml_tree.specs.Tree.{program_tree};
+    ghost use Rattle.aml_flat.specs.Flat.{AllLie};
     ghost use Rattle.aml_check.specs.Closed.{IsClosedProgram};
 
     ghost Value = { Program ℕ ℕ };
@@ -32,22 +41,24 @@ impl Model for Checked {
 
     ghost view = { λ c. c.program };
 
-    ghost invariant = { λ c. IsClosedProgram (program_tree c.program) };
+    ghost invariant = { λ c. IsClosedProgram (program_tree c.program) × AllLie c.flat.operations.items c.flat.bodies.items (program_tree c.program) };
 }
 
 impl Checked {
-    ghost use Rattle.std.specs.Prelude.{◌≡◌, ℕ, ◌<◌, ◌≢◌, length, IfSome, IfNone};
+    ghost use Rattle.std.specs.Prelude.{◌≡◌, ℕ, ◌<◌, ◌≢◌, length, IfSome, IfNone, IfOk};
     ghost use Rattle.aml_tree.specs.Tree.{block_tree, program_tree};
+    ghost use Rattle.aml_flat.specs.Flat.{AllLie};
     ghost use Rattle.aml_check.specs.Closed.{IsClosedMethod, IsClosedProgram};
     ghost use Rattle.aml_check.specs.Names.{method_at};
     ghost use Rattle.aml_check.specs.Checked.{methods_of};
 
-    /// A program with its names resolved, where it keeps what every checked program keeps.
-    pub fn of(program: Program<u8, u16>) -> Self
+    /// A program with its names resolved, where it keeps what every checked program keeps. Want of memory gives it up.
+    pub fn of(alloc: Global, program: Program<u8, u16>) -> Result<Self, Memory>
         requires { IsClosedProgram (program_tree program) }
-        ensures { result ≡ program }
+        ensures { IfOk result (λ c. c ≡ program) }
     {
-        Checked { program }
+        let flat = flatten(alloc, &program)?;
+        Ok(Checked { program, flat })
     }
 
     /// How many methods there are. Asking tells too that the program is closed.
@@ -94,5 +105,13 @@ impl Checked {
     {
         let methods = self.program.methods.as_slice();
         &methods[method as usize].body
+    }
+
+    /// The program as flat code: what each method does, from the position that its start says on.
+    pub fn flat(&self) -> &FlatProgram
+        ensures lies { AllLie result.now.operations.items result.now.bodies.items (methods_of self.now) }
+        ensures closed { IsClosedProgram (methods_of self.now) }
+    {
+        &self.flat
     }
 }

@@ -33,7 +33,8 @@ pub fn check(alloc: Global, program: Program<Word, Word>) -> Result<Checked, Che
         put_name(alloc, &mut names, &one.name)?;
         put_method(&mut checked, resolved)?;
     }
-    Ok(Checked::of(Program { methods: checked }))
+    let whole = Checked::of(alloc, Program { methods: checked })?;
+    Ok(whole)
 }
 
 fn put_method(checked: &mut Sequence<Method<u8, u16>>, one: Method<u8, u16>) -> Result<(), Memory>

@@ -1,34 +1,13 @@
 -- What is left of a block behind some of its statements.
-use Rattle.std.proofs.Common.{◌≡◌, ℕ, zero, suc, ◌+◌, ◌≤◌, ◌<◌, Bool, true, false, List, [], ◌∷◌, length, drop, get_or, refl, ap, ◌∙◌, subst, arith}
-use Rattle.aml_tree.specs.declared.trees.Statement.{Statement}
-use Rattle.aml_tree.specs.declared.trees.Statement.TheOpen.{Statement-F}
-use Rattle.aml_tree.specs.Tree.{CheckedMethod, Code, End, Let, Call, Set, SetField, If, IfElse, While, Fail, Return, Onto, statement_step, statement_tree, statements_tree}
+use Rattle.std.proofs.Common.{◌≡◌, ℕ, zero, suc, ◌+◌, ◌≤◌, ◌<◌, Bool, true, false, List, ◌∷◌, refl, sym, ap, ◌∙◌, subst, arith, ◌⊎◌, inl, inr}
+use Rattle.aml_tree.specs.Tree.{CheckedMethod, Code, End, Let, Call, Set, SetField, If, IfElse, While, Fail, Return}
+use Rattle.aml_flat.specs.declared.operations.Operation.{Operation}
+use Rattle.aml_flat.specs.declared.operations.Operation.TheVariants as op
+use Rattle.aml_flat.specs.Flat.{count_of, Lies}
+use Rattle.aml_flat.proofs.Laying.{Told, told, found}
 use Rattle.aml_check.specs.Closed.{nesting}
-use Rattle.aml_tree.specs.TreeRules.{layer}
-use Rattle.aml_resume.proofs.BlockLaws.{Step, from_here}
 use Rattle.aml_resume.specs.declared.places.Spot.{Spot}
 use Rattle.aml_resume.specs.Places.{behind_some, HasInner, IsPlace, IsRunnable, after_inner, inner_of, kept}
-
-behind_step : (x : Step) (rest : Code ℕ ℕ) (n : ℕ) → behind_some (suc n) (statement_step x rest) ≡ behind_some n rest
-behind_step (Statement-F.Let line v value) rest n = refl
-behind_step (Statement-F.Call line v target m arguments) rest n = refl
-behind_step (Statement-F.Set v value) rest n = refl
-behind_step (Statement-F.SetField line k value) rest n = refl
-behind_step (Statement-F.If condition first) rest n = refl
-behind_step (Statement-F.IfElse condition first other) rest n = refl
-behind_step (Statement-F.While condition body) rest n = refl
-behind_step (Statement-F.Fail code) rest n = refl
-behind_step (Statement-F.Return value) rest n = refl
-
-behind_tree : (s : Statement ℕ ℕ) (rest : Code ℕ ℕ) (n : ℕ) → behind_some (suc n) (statement_tree s rest) ≡ behind_some n rest
-behind_tree s rest n =
-    let l = layer s in
-    ap (λ (o : Onto ℕ ℕ). behind_some (suc n) (o rest)) l.1 ∙ behind_step l.0 rest n
-
-pub behind_statements : (n : ℕ) (ss : List (Statement ℕ ℕ)) (line : ℕ) → behind_some n (statements_tree ss (End line)) ≡ statements_tree (drop n ss) (End line)
-behind_statements zero ss line = refl
-behind_statements (suc n) [] line = refl
-behind_statements (suc n) (s ∷ ss) line = behind_tree s (statements_tree ss (End line)) n ∙ behind_statements n ss line
 
 behind_suc : (n : ℕ) (b : Code ℕ ℕ) → behind_some (suc n) b ≡ behind_some 1 (behind_some n b)
 behind_suc zero b = refl
@@ -47,32 +26,13 @@ behind_suc (suc n) (Return value rest) = behind_suc n rest
 pub behind_more : (n : ℕ) (b : Code ℕ ℕ) → behind_some (n + 1) b ≡ behind_some 1 (behind_some n b)
 behind_more n b = let e : n + 1 ≡ suc n = omega arith in ap (λ m. behind_some m b) e ∙ behind_suc n b
 
--- the statement at a place, and the rest behind it
-pub statement_here : (ss : List (Statement ℕ ℕ)) (line i : ℕ) (s : Statement ℕ ℕ) → i < length ss → s ≡ get_or ss i s → behind_some i (statements_tree ss (End line)) ≡ statement_tree s (statements_tree (drop (i + 1) ss) (End line))
-statement_here ss line i s h is = behind_statements i ss line ∙ from_here ss i s (End line) h is
-
-none_at_end : (other : Bool) (line : ℕ) → HasInner other (End line) → ⊥
+pub none_at_end : (other : Bool) (line : ℕ) → HasInner other (End line) → ⊥
 none_at_end true line h = h
 none_at_end false line h = h
 
-within : (ss : List (Statement ℕ ℕ)) (line i : ℕ) (other : Bool) → HasInner other (statements_tree (drop i ss) (End line)) → i < length ss
-within [] line zero other h = absurd (none_at_end other line h)
-within [] line (suc i) other h = absurd (none_at_end other line h)
-within (s ∷ ss) line zero other h = omega arith
-within (s ∷ ss) line (suc i) other h = omega (arith, within ss line i other h)
-
--- a place of a statement that has an inner block is one of the block's
-pub inner_within : (ss : List (Statement ℕ ℕ)) (line i : ℕ) (other : Bool) → HasInner other (behind_some i (statements_tree ss (End line))) → i < length ss
-inner_within ss line i other h = within ss line i other (subst (HasInner other) (behind_statements i ss line) h)
-
--- the block from a place on, by what the statement there is
-pub block_here : (ss : List (Statement ℕ ℕ)) (line i : ℕ) (other : Bool) (s : Statement ℕ ℕ) (o : Onto ℕ ℕ) → HasInner other (behind_some i (statements_tree ss (End line))) → s ≡ get_or ss i s → statement_tree s ≡ o → behind_some i (statements_tree ss (End line)) ≡ o (statements_tree (drop (i + 1) ss) (End line))
-block_here ss line i other s o has is tree =
-    statement_here ss line i s (inner_within ss line i other has) is ∙ ap (λ (t : Onto ℕ ℕ). t (statements_tree (drop (i + 1) ss) (End line))) tree
-
 -- ---- inner blocks are no deeper than the block but for one level
 
-deep_some : (n : ℕ) (b : Code ℕ ℕ) → nesting (behind_some n b) ≤ nesting b
+pub deep_some : (n : ℕ) (b : Code ℕ ℕ) → nesting (behind_some n b) ≤ nesting b
 deep_some zero b = omega arith
 deep_some (suc n) (End line) = omega arith
 deep_some (suc n) (Let line v value rest) = deep_some n rest
@@ -123,3 +83,96 @@ opened p n b path q qs next is place =
     let P : List Spot → Type 0 = λ ps. IsPlace p n b ps next in
     let h = subst P is place in
     record { has = h.0; place = h.1; keeps = h.2; after = h.3 }
+
+-- ---- how many statements there are
+
+pub some_level : (b : Code ℕ ℕ) → 1 ≤ nesting b
+some_level (End line) = omega arith
+some_level (Let line v value rest) = some_level rest
+some_level (Call line v target m arguments rest) = some_level rest
+some_level (Set v value rest) = some_level rest
+some_level (SetField line k value rest) = some_level rest
+some_level (If condition first rest) = omega (arith, some_level rest)
+some_level (IfElse condition first other rest) = omega (arith, some_level rest)
+some_level (While condition body rest) = omega (arith, some_level rest)
+some_level (Fail code rest) = some_level rest
+some_level (Return value rest) = some_level rest
+
+pub count_behind : (k : ℕ) (b : Code ℕ ℕ) → k ≤ count_of b → count_of (behind_some k b) + k ≡ count_of b
+count_behind zero b h = omega arith
+count_behind (suc i) (End line) h = absurd (omega (arith, h))
+count_behind (suc i) (Let line v value rest) h = omega (arith, count_behind i rest (omega (arith, h)))
+count_behind (suc i) (Call line v target m arguments rest) h = omega (arith, count_behind i rest (omega (arith, h)))
+count_behind (suc i) (Set v value rest) h = omega (arith, count_behind i rest (omega (arith, h)))
+count_behind (suc i) (SetField line k value rest) h = omega (arith, count_behind i rest (omega (arith, h)))
+count_behind (suc i) (If condition first rest) h = omega (arith, count_behind i rest (omega (arith, h)))
+count_behind (suc i) (IfElse condition first other rest) h = omega (arith, count_behind i rest (omega (arith, h)))
+count_behind (suc i) (While condition body rest) h = omega (arith, count_behind i rest (omega (arith, h)))
+count_behind (suc i) (Fail code rest) h = omega (arith, count_behind i rest (omega (arith, h)))
+count_behind (suc i) (Return value rest) h = omega (arith, count_behind i rest (omega (arith, h)))
+
+-- behind all statements is the end
+pub all_behind : (k : ℕ) (b : Code ℕ ℕ) → count_of b ≤ k → (line : ℕ) × (behind_some k b ≡ End line)
+all_behind zero (End line) h = (line, refl)
+all_behind zero (Let line v value rest) h = absurd (omega (arith, h))
+all_behind zero (Call line v target m arguments rest) h = absurd (omega (arith, h))
+all_behind zero (Set v value rest) h = absurd (omega (arith, h))
+all_behind zero (SetField line k value rest) h = absurd (omega (arith, h))
+all_behind zero (If condition first rest) h = absurd (omega (arith, h))
+all_behind zero (IfElse condition first other rest) h = absurd (omega (arith, h))
+all_behind zero (While condition body rest) h = absurd (omega (arith, h))
+all_behind zero (Fail code rest) h = absurd (omega (arith, h))
+all_behind zero (Return value rest) h = absurd (omega (arith, h))
+all_behind (suc i) (End line) h = (line, refl)
+all_behind (suc i) (Let line v value rest) h = all_behind i rest (omega (arith, h))
+all_behind (suc i) (Call line v target m arguments rest) h = all_behind i rest (omega (arith, h))
+all_behind (suc i) (Set v value rest) h = all_behind i rest (omega (arith, h))
+all_behind (suc i) (SetField line k value rest) h = all_behind i rest (omega (arith, h))
+all_behind (suc i) (If condition first rest) h = all_behind i rest (omega (arith, h))
+all_behind (suc i) (IfElse condition first other rest) h = all_behind i rest (omega (arith, h))
+all_behind (suc i) (While condition body rest) h = all_behind i rest (omega (arith, h))
+all_behind (suc i) (Fail code rest) h = all_behind i rest (omega (arith, h))
+all_behind (suc i) (Return value rest) h = all_behind i rest (omega (arith, h))
+
+-- ---- where it lies
+
+rest_told : (ops : List Operation) (from at : ℕ) (b : Code ℕ ℕ) (o : Operation) → Told ops from at b o → 1 ≤ count_of b → Lies ops (from + 1) (at + 1) (behind_some 1 b)
+rest_told ops from at b op.End t h = absurd (omega (arith, ap count_of t.1, h))
+rest_told ops from at b (op.Let e) t h = let P : Code ℕ ℕ → Type 0 = λ c. Lies ops (from + 1) (at + 1) c in subst P (sym (ap (behind_some 1) t.3)) t.4
+rest_told ops from at b (op.Call place e method es) t h = let P : Code ℕ ℕ → Type 0 = λ c. Lies ops (from + 1) (at + 1) c in subst P (sym (ap (behind_some 1) t.4)) t.5
+rest_told ops from at b (op.Set variable e) t h = let P : Code ℕ ℕ → Type 0 = λ c. Lies ops (from + 1) (at + 1) c in subst P (sym (ap (behind_some 1) t.1)) t.2
+rest_told ops from at b (op.SetField field e) t h = let P : Code ℕ ℕ → Type 0 = λ c. Lies ops (from + 1) (at + 1) c in subst P (sym (ap (behind_some 1) t.2)) t.3
+rest_told ops from at b (op.If place e to) t h = let P : Code ℕ ℕ → Type 0 = λ c. Lies ops (from + 1) (at + 1) c in subst P (sym (ap (behind_some 1) t.3)) t.5
+rest_told ops from at b (op.IfElse place e to otherwise) t h = let P : Code ℕ ℕ → Type 0 = λ c. Lies ops (from + 1) (at + 1) c in subst P (sym (ap (behind_some 1) t.4)) t.7
+rest_told ops from at b (op.While place e to) t h = let P : Code ℕ ℕ → Type 0 = λ c. Lies ops (from + 1) (at + 1) c in subst P (sym (ap (behind_some 1) t.3)) t.5
+rest_told ops from at b (op.Fail c) t h = let P : Code ℕ ℕ → Type 0 = λ c. Lies ops (from + 1) (at + 1) c in subst P (sym (ap (behind_some 1) t.1)) t.2
+rest_told ops from at b (op.Return e) t h = let P : Code ℕ ℕ → Type 0 = λ c. Lies ops (from + 1) (at + 1) c in subst P (sym (ap (behind_some 1) t.1)) t.2
+
+rest_lies : (ops : List Operation) (from at : ℕ) (b : Code ℕ ℕ) → Lies ops from at b → 1 ≤ count_of b → Lies ops (from + 1) (at + 1) (behind_some 1 b)
+rest_lies ops from at b h some = let f = found ops from at b h in rest_told ops from at b f.operation (told ops from at b f.operation f.is h) some
+
+pub behind_lies : (ops : List Operation) (from : ℕ) (k : ℕ) (b : Code ℕ ℕ) → Lies ops from 0 b → k ≤ count_of b → Lies ops (from + k) k (behind_some k b)
+behind_lies ops from zero b h few = let P : ℕ → Type 0 = λ i. Lies ops i 0 b in subst P (let e : from ≡ from + 0 = omega arith in e) h
+behind_lies ops from (suc k) b h few =
+    let less : k ≤ count_of b = omega (arith, few) in
+    let on : Lies ops ((from + k) + 1) (k + 1) (behind_some 1 (behind_some k b)) = rest_lies ops (from + k) k (behind_some k b) (behind_lies ops from k b h less) (omega (arith, count_behind k b less, few)) in
+    let P : Code ℕ ℕ → Type 0 = λ c. Lies ops ((from + k) + 1) (k + 1) c in
+    let Q : ℕ → ℕ → Type 0 = λ i j. Lies ops i j (behind_some (suc k) b) in
+    subst (λ i. Q i (suc k)) (let e : (from + k) + 1 ≡ from + suc k = omega arith in e) (subst (λ j. Q ((from + k) + 1) j) (let e : k + 1 ≡ suc k = omega arith in e) (subst P (sym (behind_suc k b)) on))
+
+within_by : (k : ℕ) (b : Code ℕ ℕ) (other : Bool) → HasInner other (behind_some k b) → ((k < count_of b) ⊎ (count_of b ≤ k)) → k < count_of b
+within_by k b other h (inl less) = less
+within_by k b other h (inr past) = let e = all_behind k b past in absurd (none_at_end other e.0 (subst (HasInner other) e.1 h))
+
+step_or_not : (k n : ℕ) → (k < n) ⊎ (n ≤ k) → (suc k < suc n) ⊎ (suc n ≤ suc k)
+step_or_not k n (inl h) = inl (omega (arith, h))
+step_or_not k n (inr h) = inr (omega (arith, h))
+
+pub less_or_not : (k n : ℕ) → (k < n) ⊎ (n ≤ k)
+less_or_not k zero = inr (omega arith)
+less_or_not zero (suc n) = inl (omega arith)
+less_or_not (suc k) (suc n) = step_or_not k n (less_or_not k n)
+
+-- a place of a statement that has an inner block is one of the block's
+pub inner_within : (k : ℕ) (b : Code ℕ ℕ) (other : Bool) → HasInner other (behind_some k b) → k < count_of b
+inner_within k b other h = within_by k b other h (less_or_not k (count_of b))

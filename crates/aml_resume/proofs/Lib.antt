@@ -1,8 +1,5 @@
 pub mod Passing
-pub mod BlockLaws
 pub mod Behinds
-pub mod Runnables
-pub mod Variants
 pub mod Rising
 pub mod MovedRuns
 pub mod Keeping
@@ -10,5 +7,7 @@ pub mod Fuel
 pub mod Pauses
 pub mod PausesFrom
 pub mod PausedPlaces
-pub mod RunningOn
 pub mod Leaving
+pub mod Leading
+pub mod Leads
+pub mod Entering

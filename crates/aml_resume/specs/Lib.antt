@@ -3,4 +3,4 @@ pub mod Pausing
 pub mod Resuming
 pub mod Rooms
 pub mod Reading
-pub mod Ways
+pub mod Machine

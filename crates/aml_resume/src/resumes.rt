@@ -1,21 +1,19 @@
 //! A method, run on from where it stands.
 
-ghost use Rattle.std.specs.Prelude.{◌≡◌, ◌<◌, ◌≤◌, ◌^◌, ◌+◌, ◌∷◌, ℕ, [], length, reverse, vec_capacity, MatchOption};
-ghost use Rattle.aml_tree.specs.Tree.{block_tree};
+ghost use Rattle.std.specs.Prelude.{◌≡◌, ◌≤◌, ◌<◌, ◌^◌, ◌+◌, [], length, min, reverse, vec_capacity};
+ghost use Rattle.aml_flat.specs.Flat.{AllLie, LiesAt};
 ghost use Rattle.aml_check.specs.Checked.{methods_of};
-ghost use Rattle.aml_check.specs.Closed.{nesting};
 ghost use Rattle.aml_check.specs.Names.{method_at};
-ghost use Rattle.aml_resume.specs.Places.{HasInner, IsPlace, after_inner, behind_some, inner_of, kept, place_behind};
-ghost use Rattle.aml_resume.specs.Pausing.{Through, method_pause, pause_from, pause_of};
+ghost use Rattle.aml_resume.specs.Machine.{Enters, Leads, opened_of};
+ghost use Rattle.aml_resume.specs.Places.{IsPlace};
+ghost use Rattle.aml_resume.specs.Pausing.{Pause, method_pause, pause_of};
 ghost use Rattle.aml_resume.specs.Rooms.{HasRoom, standing_of};
-ghost use Rattle.aml_resume.specs.Ways.{IfAsks, IfGoes, IsReadyToRun, StaysReady, then_on};
 
-use crate::blocks::{block, put_spot};
-use crate::ways::Way;
+use crate::operations::{fetched, run};
 use crate::{Activation, Exit, Spot};
 use aml_check::{Checked, MOST_STATEMENTS};
-use aml_tree::{Block, MOST_LEVELS, MOST_PARAMETERS, Statement};
-use aml_values::Code;
+use aml_flat::{BlockPlace, FlatProgram, Operation};
+use aml_tree::{MOST_LEVELS, MOST_PARAMETERS};
 use snap_base::State;
 
 /// Runs a method on an actor up to its next call, or to its end. At a call, `arguments` holds the
@@ -41,128 +39,119 @@ pub fn resume(
     ensures arguments { vec_capacity arguments.new ≡ vec_capacity arguments.old }
     ensures count { (statements.old ≤ statements.new) × (statements.new ≤ MOST_STATEMENTS) }
 {
-    let body = program.body(method);
-    match go_on(
+    let flat = program.flat();
+    let operations = flat.operations.as_slice();
+    let body = body_of(program, flat, method);
+    let mut positions = [0; MOST_LEVELS];
+    activation.path.reverse();
+    let from = enter(
         program,
-        MOST_LEVELS,
+        operations,
         own,
-        activation,
-        arguments,
+        body,
+        activation.path.as_slice(),
+        activation.next,
+        activation.variables.as_slice(),
         state,
         statements,
-        body,
-    )? {
-        Way::Goes => Ok(Exit::Gives(0)),
-        Way::Gives(value) => Ok(Exit::Gives(value)),
-        Way::Asks { target, method } => Ok(Exit::Asks { target, method }),
-    }
+        &mut positions,
+    );
+    let exit = run(
+        program,
+        operations,
+        own,
+        from,
+        activation,
+        state,
+        statements,
+        arguments,
+        &mut positions,
+    )?;
+    activation.path.reverse();
+    Ok(exit)
 }
 
-/// Runs a block on from a place in it.
-fn go_on(
-    program: &Checked,
-    levels: usize,
-    own: usize,
-    activation: &mut Activation,
-    arguments: &mut Vec<i64>,
-    state: &mut State,
-    statements: &mut u16,
-    code: &Block<Statement<u8, u16>>,
-) -> Result<Way, Code>
-    requires ready { IsReadyToRun activation.old (vec_capacity arguments.old) statements.old }
-    requires small { own < 2 ^ 63 }
-    requires place { IsPlace (methods_of program.now) (length activation.old.variables.items) (block_tree code.now) (reverse activation.old.path.items) activation.old.next }
-    requires deep { nesting (block_tree code.now) ≤ levels }
-    requires levels { levels ≤ MOST_LEVELS }
-    ensures runs { pause_from own (block_tree code.now) (reverse activation.old.path.items) activation.old.next activation.old.variables.items state.old statements.old ≡ then_on result (standing_of activation.new) arguments.new.items state.new statements.new Through }
-    ensures few { IfAsks result (length activation.new.path.items + 1 ≤ levels) }
-    ensures path { IfGoes result (activation.new.path.items ≡ []) }
-    ensures longer { IfGoes result (kept (length activation.old.variables.items) (reverse activation.old.path.items) ≤ length activation.new.variables.items) }
-    ensures keeps { StaysReady (vec_capacity arguments.old) statements.old activation.new (vec_capacity arguments.new) statements.new }
+/// Where the body of a method lies.
+fn body_of(_program: &Checked, flat: &FlatProgram, method: u16) -> BlockPlace
+    requires lies { AllLie flat.now.operations.items flat.now.bodies.items (methods_of _program.now) }
+    requires method { method < length (methods_of _program.now) }
+    ensures { LiesAt flat.now.operations.items result (method_at (methods_of _program.now) method).body }
 {
-    match take_spot(&mut activation.path) {
-        None => {
-            let next = activation.next;
-            block(
-                program, levels, own, activation, arguments, state, statements, code, next,
-            )
+    let bodies = flat.bodies.as_slice();
+    bodies[method as usize]
+}
+
+/// The position at which a method goes on, with a path from the outermost block, from the block in which it begins; and the
+/// positions of what goes on behind the blocks that are open.
+fn enter(
+    _program: &Checked,
+    operations: &[Operation],
+    _own: usize,
+    body: BlockPlace,
+    path: &[Spot],
+    next: usize,
+    _variables: &[i64],
+    _state: &State,
+    _statements: &u16,
+    positions: &mut [usize; MOST_LEVELS],
+) -> usize
+    requires enters { (whole : Pause) × Enters (methods_of _program.now) operations.now _own path.now [] next positions.old body _variables.now _state.now _statements.now whole }
+    ensures { (whole : Pause) → Enters (methods_of _program.now) operations.now _own path.now [] next positions.old body _variables.now _state.now _statements.now whole → Leads (methods_of _program.now) operations.now _own (reverse path.now) positions.new result _variables.now _state.now _statements.now whole }
+{
+    let mut block = body;
+    for (depth, spot) in path.iter().enumerate() {
+        let from = position_at(operations, block.first, spot.at);
+        match opened(fetched(operations, from), from, spot.other) {
+            Some((inner, behind)) => {
+                positions[depth] = behind;
+                block = inner;
+            }
+            None => unreachable!(),
         }
-        Some(spot) => {
-            let way = go_on(
-                program,
-                levels - 1,
-                own,
-                activation,
-                arguments,
-                state,
-                statements,
-                inner_block(code, spot),
-            )?;
-            match way {
-                Way::Goes => {
-                    activation.variables.truncate(spot.keep);
-                    let next = next_behind(code, spot);
-                    block(
-                        program, levels, own, activation, arguments, state, statements, code, next,
-                    )
-                }
-                Way::Gives(value) => Ok(Way::Gives(value)),
-                Way::Asks { target, method } => {
-                    put_spot(&mut activation.path, spot);
-                    Ok(Way::Asks { target, method })
-                }
+    }
+    let at = at_most(next, block.count);
+    position_at(operations, block.first, at)
+}
+
+/// The position so many operations behind another.
+fn position_at(_operations: &[Operation], first: usize, by: usize) -> usize
+    requires { first + by < length _operations.now }
+    ensures { result ≡ first + by }
+{
+    first + by
+}
+
+fn at_most(next: usize, count: usize) -> usize
+    ensures { result ≡ min next count }
+{
+    if next < count { next } else { count }
+}
+
+/// The inner block of an operation that has one, and the position of what goes on behind it.
+fn opened(operation: &Operation, from: usize, other: bool) -> Option<(BlockPlace, usize)>
+    requires { from < usize.MAX }
+    ensures { result ≡ opened_of other from operation.now }
+{
+    match operation {
+        Operation::If { first, .. } => Some((*first, from + 1)),
+        Operation::IfElse {
+            first,
+            other: otherwise,
+            ..
+        } => {
+            if other {
+                Some((*otherwise, from + 1))
+            } else {
+                Some((*first, from + 1))
             }
         }
-    }
-}
-
-/// The outermost statement whose inner block is open.
-fn take_spot(path: &mut Vec<Spot>) -> Option<Spot>
-    ensures outermost { MatchOption result ((path.old.items ≡ []) × (path.new.items ≡ [])) (λ q. (reverse path.old.items ≡ q ∷ reverse path.new.items) × (length path.old.items ≡ length path.new.items + 1)) }
-    ensures room { vec_capacity path.new ≡ vec_capacity path.old }
-{
-    path.pop()
-}
-
-/// The inner block of a statement that has one.
-fn inner_block(code: &Block<Statement<u8, u16>>, spot: Spot) -> &Block<Statement<u8, u16>>
-    requires { HasInner spot.other (behind_some spot.at (block_tree code.now)) }
-    ensures { block_tree result.now ≡ inner_of spot.other (behind_some spot.at (block_tree code.now)) }
-{
-    match &code.statements[spot.at] {
-        Statement::If {
-            condition: _,
-            first,
-        } => first,
-        Statement::IfElse {
-            condition: _,
-            first,
-            other,
-        } => { if spot.other { other } else { first } }
-        Statement::While { condition: _, body } => body,
-        Statement::Let { .. }
-        | Statement::Call { .. }
-        | Statement::Set { .. }
-        | Statement::SetField { .. }
-        | Statement::Fail { .. }
-        | Statement::Return { .. } => unreachable!(),
-    }
-}
-
-/// The statement that is next behind an inner block: a loop itself, and else the one behind.
-fn next_behind(code: &Block<Statement<u8, u16>>, spot: Spot) -> usize
-    requires { HasInner spot.other (behind_some spot.at (block_tree code.now)) }
-    ensures after { behind_some result (block_tree code.now) ≡ after_inner (behind_some spot.at (block_tree code.now)) }
-    ensures place { result ≡ place_behind spot.at (behind_some spot.at (block_tree code.now)) }
-{
-    match &code.statements[spot.at] {
-        Statement::While { .. } => spot.at,
-        Statement::If { .. } | Statement::IfElse { .. } => spot.at + 1,
-        Statement::Let { .. }
-        | Statement::Call { .. }
-        | Statement::Set { .. }
-        | Statement::SetField { .. }
-        | Statement::Fail { .. }
-        | Statement::Return { .. } => unreachable!(),
+        Operation::While { body, .. } => Some((*body, from)),
+        Operation::End
+        | Operation::Let { .. }
+        | Operation::Call { .. }
+        | Operation::Set { .. }
+        | Operation::SetField { .. }
+        | Operation::Fail { .. }
+        | Operation::Return { .. } => None,
     }
 }

@@ -1,12 +1,12 @@
-//! How a block is left.
+//! Where an operation leads.
 
-/// How a block, or a part of it, is left.
+/// Where an operation leads.
 #[derive(Clone, Copy, Debug, PartialEq, Eq)]
 pub(crate) enum Way {
-    /// Behind its last statement.
-    Goes,
-    /// By the value that is returned.
+    /// To the operation at this position.
+    Goes(usize),
+    /// Out of the method, with the value that is returned.
     Gives(i64),
-    /// At a call of a method on an actor.
+    /// To a call of a method on an actor.
     Asks { target: i64, method: u16 },
 }

@@ -12,8 +12,7 @@ use Rattle.aml_resume.specs.declared.places.Spot.{Spot}
 use Rattle.aml_resume.specs.Places.{IsPlace, IsRunnable, Standing, behind_some, inner_of}
 use Rattle.aml_resume.specs.Pausing.{Calling, method_pause}
 use Rattle.aml_resume.specs.Resuming.{IsAllowedPause, PausesWhereAllowed}
-use Rattle.aml_resume.proofs.Behinds.{deep_inside}
-use Rattle.aml_resume.proofs.BlockLaws.{some_level}
+use Rattle.aml_resume.proofs.Behinds.{deep_inside, some_level}
 use Rattle.aml_slice.specs.Controls.{Frame, Rest, IsFrame, IsRest, StandsOn, HasLeft, progress_in, with_given, fresh}
 use Rattle.aml_slice.specs.Views.{NextFrame, HasPlace, Enters}
 use Rattle.aml_slice.proofs.Moving.{Ran, Follows}

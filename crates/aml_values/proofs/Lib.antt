@@ -1,2 +1,3 @@
 pub mod ChainValues
 pub mod Declared
+mod TwoValues

@@ -46,7 +46,7 @@ fn remainder(left: i64, right: i64) -> Result<i64, Code>
 }
 
 #[inline(always)]
-fn joined(operator: Operator, left: i64, right: i64) -> Result<i64, Code>
+pub(crate) fn joined(operator: Operator, left: i64, right: i64) -> Result<i64, Code>
     ensures { result ≡ joined operator left right }
 {
     match operator {
@@ -98,11 +98,14 @@ fn closed_link(
     ensures { IsClosedExpression (length _variables.now) (expression_tree _link.now.operand) }
 {}
 
-/// What an expression gives, or the code of a failure: a result outside signed 64 bits, or a divisor 0. It is inlined where
-/// a statement runs, and operands that are no expressions of their own are read in place.
+/// What an expression that is a tree gives.
 #[cycle(values)]
-#[inline(always)]
-pub fn value(own: usize, variables: &[i64], state: &State, e: &Expression<u8>) -> Result<i64, Code>
+pub(crate) fn tree_value(
+    own: usize,
+    variables: &[i64],
+    state: &State,
+    e: &Expression<u8>,
+) -> Result<i64, Code>
     requires small { own < 2 ^ 63 }
     requires closed { IsClosedExpression (length variables.now) (expression_tree e.now) }
     ensures { result ≡ value_of own variables.now state.now (expression_tree e.now) }
@@ -112,9 +115,9 @@ pub fn value(own: usize, variables: &[i64], state: &State, e: &Expression<u8>) -
         Expression::Variable(place) => Ok(variables[*place as usize]),
         Expression::Field { field, line: _ } => Ok(state.0[*field as usize]),
         Expression::Own => Ok(own as i64),
-        Expression::Group(inner) => part(own, variables, state, inner),
+        Expression::Group(inner) => tree_value(own, variables, state, inner),
         Expression::Negative(inner) => {
-            let positive = operand(own, variables, state, inner)?;
+            let positive = tree_value(own, variables, state, inner)?;
             positive.checked_neg().ok_or(OVERFLOW)
         }
         Expression::Chain { first, rest } => {
@@ -125,18 +128,7 @@ pub fn value(own: usize, variables: &[i64], state: &State, e: &Expression<u8>) -
     }
 }
 
-/// What an expression inside another gives.
-#[cycle(values)]
-#[inline(never)]
-fn part(own: usize, variables: &[i64], state: &State, e: &Expression<u8>) -> Result<i64, Code>
-    requires small { own < 2 ^ 63 }
-    requires closed { IsClosedExpression (length variables.now) (expression_tree e.now) }
-    ensures { result ≡ value_of own variables.now state.now (expression_tree e.now) }
-{
-    value(own, variables, state, e)
-}
-
-/// What an operand gives.
+/// What an operand gives; a number, a variable or a field is read in place.
 #[cycle(values)]
 #[inline(always)]
 fn operand(own: usize, variables: &[i64], state: &State, e: &Expression<u8>) -> Result<i64, Code>
@@ -150,7 +142,7 @@ fn operand(own: usize, variables: &[i64], state: &State, e: &Expression<u8>) -> 
         Expression::Field { field, line: _ } => Ok(state.0[*field as usize]),
         Expression::Own => Ok(own as i64),
         Expression::Group(_) | Expression::Negative(_) | Expression::Chain { .. } => {
-            part(own, variables, state, e)
+            tree_value(own, variables, state, e)
         }
     }
 }

@@ -1,14 +1,14 @@
 use Rattle.std.proofs.Common.{length, rules, w64, FitsSigned, arith, ap, ◌∙◌}
 use Rattle.std.proofs.lemmas.Int.{to_z-of_z}
 use Rattle.std.proofs.lemmas.List.{length-append}
-use Rattle.aml_tree.specs.Tree.{expression_tree}
+use Rattle.aml_flat.specs.Flat.{flat_tree}
 use Rattle.aml_check.specs.Closed.{IsClosedExpression}
 use Rattle.aml_values.proofs.ChainValues.{view_at}
 use Rattle.aml_resume.proofs.Passing.{values_next}
 use Rattle.aml_resume.proofs.arguments.pass.Goals as goal
 
 pub value-requires-clause-closed : goal.value-requires-clause-closed
-value-requires-clause-closed c = view_at (IsClosedExpression (length c.args.variables.now)) expression_tree c.args.es.now c.loop-e.e-index c.e-item.result c.loop-e-test.true c.e-item.is c.requires.closed
+value-requires-clause-closed c = view_at (IsClosedExpression (length c.args.variables.now)) flat_tree c.args.es.now c.loop-e.e-index c.e-item.result c.loop-e-test.true c.e-item.is c.requires.closed
 
 pub loop-e-preserved : goal.loop-e-preserved
 loop-e-preserved c =

@@ -8,15 +8,15 @@ use Rattle.aml_values.specs.Chains.{along}
 use Rattle.aml_values.proofs.ChainValues.{chain_value, along_fails, chain_next, chain_stops}
 use Rattle.aml_values.proofs.values.+values.Goals as goal
 
-pub value-returns-in_err-head-in-Chain : goal.value-returns-in_err-head-in-Chain
-value-returns-in_err-head-in-Chain t c =
+pub tree_value-returns-in_err-head-in-Chain : goal.tree_value-returns-in_err-head-in-Chain
+tree_value-returns-in_err-head-in-Chain t c =
     let p = err_from_is_err_and c.from_residual-in_err-head-in-Chain.result c.from_residual-in_err-head-in-Chain.ensures.1 in
     let e : expression_tree c.args.e.now ≡ chain_tree (expression_tree c.in-Chain.first.value) (link_trees c.in-Chain.rest.items) = rw c.in-Chain.is (tree_of_chain c.in-Chain.first c.in-Chain.rest) in
     let here : Err c.in_err-head-in-Chain.field-0.0 ≡ value_of c.args.own c.args.variables.now c.args.state.now (expression_tree c.in-Chain.first.value) = rw c.deref-in-Chain-3.ensures at c.in_err-head-in-Chain.ensures in
     rw (p.1, p.2, e) (sym (chain_value c.args.own c.args.variables.now c.args.state.now (expression_tree c.in-Chain.first.value) (link_trees c.in-Chain.rest.items) ∙ ap (λ (r : Result ℤ ℕ). along c.args.own c.args.variables.now c.args.state.now r (link_trees c.in-Chain.rest.items)) (sym here) ∙ along_fails c.args.own c.args.variables.now c.args.state.now c.in_err-head-in-Chain.field-0.0 (link_trees c.in-Chain.rest.items)))
 
-pub value-returns-in_ok-head-in-Chain : goal.value-returns-in_ok-head-in-Chain
-value-returns-in_ok-head-in-Chain t c =
+pub tree_value-returns-in_ok-head-in-Chain : goal.tree_value-returns-in_ok-head-in-Chain
+tree_value-returns-in_ok-head-in-Chain t c =
     let fits : FitsSigned w64 c.in_ok-head-in-Chain.head = search rules in
     let e : expression_tree c.args.e.now ≡ chain_tree (expression_tree c.in-Chain.first.value) (link_trees c.in-Chain.rest.items) = rw c.in-Chain.is (tree_of_chain c.in-Chain.first c.in-Chain.rest) in
     let here : Ok c.in_ok-head-in-Chain.head ≡ value_of c.args.own c.args.variables.now c.args.state.now (expression_tree c.in-Chain.first.value) = rw c.deref-in-Chain-3.ensures at c.in_ok-head-in-Chain.ensures in

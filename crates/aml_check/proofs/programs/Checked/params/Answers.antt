@@ -4,5 +4,5 @@ use Rattle.aml_check.proofs.programs.Checked.params.Goals as goal
 
 pub overflow_cast-result : goal.overflow_cast-result
 overflow_cast-result c =
-    let fits = parameters_fit c.self.inside.program c.args.method c.index-methods-method.result c.self.invariant (rw c.self.view_is c.requires) in
+    let fits = parameters_fit c.self.inside.program c.args.method c.index-methods-method.result c.self.invariant.0 (rw c.self.view_is c.requires) in
     rw (c.len.ensures, c.as_slice-methods.ensures) (omega (arith, fits))
