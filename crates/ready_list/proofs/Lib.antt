@@ -1,5 +1,6 @@
 pub mod AmongRings
 pub mod FirstNumbers
 pub mod Gaps
+pub mod OneEvent
 pub mod Reaches
 pub mod Roomed

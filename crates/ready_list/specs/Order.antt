@@ -20,6 +20,10 @@ is_lower p q = nat_lt p.first q.first || ((p.first == q.first) && nat_lt p.secon
 abbrev pub is_same : Place → Place → Bool
 is_same p q = (p.first == q.first) && (p.second == q.second)
 
+-- whether they are one event
+abbrev pub is_one : Event → Event → Bool
+is_one e f = (kind_of e == kind_of f) && is_same (numbers e) (numbers f)
+
 abbrev pub is_before : Event → Event → Bool
 is_before e f = is_rank_below (rank e) (rank f)
 

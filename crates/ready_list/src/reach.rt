@@ -4,6 +4,7 @@ ghost use Rattle.std.specs.Prelude.{◌≡◌};
 ghost use Rattle.core_events.specs.Meant.{event_meant};
 ghost use Rattle.protocol.specs.Events as machine;
 ghost use Rattle.protocol_ready.specs.Refusing.{may_refuse};
+ghost use Rattle.ready_list.specs.Order.{is_one};
 ghost use Rattle.ready_list.specs.Reaches.{actor_of, is_among, is_reached, kinds_numbered, kinds_on_actor, kinds_wholly};
 
 use crate::kinds::{
@@ -45,6 +46,13 @@ impl Reach {
             actor: actor_of(e),
             number: place_of(e).first,
         }
+    }
+
+    /// Whether this is the event itself.
+    pub fn is_of(&self, f: Event) -> bool
+        ensures { result ≡ is_one (event_meant self.now.event) (event_meant f) }
+    {
+        kind_of(self.event) == kind_of(f) && place_of(self.event).is_same(&place_of(f))
     }
 
     /// Whether it may refuse this one.

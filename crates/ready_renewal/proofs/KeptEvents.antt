@@ -143,7 +143,10 @@ all_put xs i old new past so_far = subst (λ v. IsWithAll (map event_meant v) ol
 -- ---- what is refused
 
 pub not_reached : (w : Fixed Rest) (h : Parts) (e f : Event) (gone : List Event) → may_refuse e f ≡ false → IsAsked w h e f gone gone
-not_reached w h e f gone no_way = record { out = λ g c. inl c; kept = λ g c. c; asked = inr no_way }
+not_reached w h e f gone no_way = record { out = λ g c. inl c; kept = λ g c. c; asked = inr (inr no_way) }
+
+pub not_asked : (w : Fixed Rest) (h : Parts) (e f : Event) (gone : List Event) → f ≡ e → IsAsked w h e f gone gone
+not_asked w h e f gone same = record { out = λ g c. inl c; kept = λ g c. c; asked = inr (inl same) }
 
 pub still_allowed : (w : Fixed Rest) (h : Parts) (e f : Event) (gone : List Event) → IsAllowedOn w h f → IsAsked w h e f gone gone
 still_allowed w h e f gone allowed = record { out = λ g c. inl c; kept = λ g c. c; asked = inl (inr allowed) }
@@ -268,8 +271,8 @@ all_reached w h d e es none first second last wholly on_actor numbered actor num
     by f i true p b q c r n s = raised w h (event_meant d) f first last (λ g. three.kept f (two.kept f g)) (one.asked f (in_kinds wholly None es f i (of_any wholly f p)))
     by f i false p true q c r n s = raised w h (event_meant d) f second last (three.kept f) (two.asked f (in_kinds on_actor None es f i (of_any on_actor f q)))
     by f i false p false q true r true s = three.asked f (in_kinds numbered (Some number) es f i (of_number numbered number f r (eqb-true number (first_of f) s)))
-    by f i false p false q true r false s = inr (reach f ∙ or_from _ _ p (or_from _ _ (and_left _ _ q) (and_right _ _ s)))
-    by f i false p false q false r n s = inr (reach f ∙ or_from _ _ p (or_from _ _ (and_left _ _ q) (and_left _ _ r)))
+    by f i false p false q true r false s = inr (inr (reach f ∙ or_from _ _ p (or_from _ _ (and_left _ _ q) (and_right _ _ s))))
+    by f i false p false q false r n s = inr (inr (reach f ∙ or_from _ _ p (or_from _ _ (and_left _ _ q) (and_left _ _ r))))
 
 -- ---- together
 
@@ -299,7 +302,7 @@ renewed w h e ahead news gone old middle new on ruled tells enabled once others 
         | inl a ↦
             let p = less.only f a in
             let q = others e old f p.0 in
-            elim (out.all f q.0) [ inl b ↦ elim b [ inl g ↦ absurd (p.1 g) | inr allowed ↦ inl (here f allowed) ] | inr n ↦ inr (q.0, n) ]
+            elim (out.all f q.0) [ inl b ↦ elim b [ inl g ↦ absurd (p.1 g) | inr allowed ↦ inl (here f allowed) ] | inr n ↦ elim n [ inl itself ↦ absurd (q.1 itself) | inr no_way ↦ inr (q.0, no_way) ] ]
         | inr allowed ↦ inl (here f allowed)
       ];
       own = inr (λ c. elim (more.only e c) [ inl a ↦ (others e old e (less.only e a).0).1 refl | inr allowed ↦ own e is.allowed (here e allowed) ]);

@@ -32,11 +32,11 @@ of_kind kind number es = filter (λ f. is_of number f kind) es
 abbrev pub of_kinds : List ℕ → Option ℕ → List Event → List Event
 of_kinds kinds number es = filter (λ f. list_any (is_of number f) kinds) es
 
--- an event is gone or allowed, or e may not refuse it
+-- an event is gone or allowed, or it is e, or e may not refuse it
 abbrev pub IsSettled : Fixed Rest → Parts → Event → Event → List Event → Type 0
-IsSettled w h e f gone = (Contains gone f ⊎ IsAllowedOn w h f) ⊎ (may_refuse e f ≡ false)
+IsSettled w h e f gone = (Contains gone f ⊎ IsAllowedOn w h f) ⊎ ((f ≡ e) ⊎ (may_refuse e f ≡ false))
 
--- One was asked for again: it is gone where e may refuse it and it is refused, and nothing else that is allowed is.
+-- One other than e was asked for again: it is gone where e may refuse it and it is refused, and nothing else that is allowed is.
 pub record IsAsked (w : Fixed Rest) (h : Parts) (e f : Event) (old new : List Event) : Type 0 where
   pub out : (g : Event) → Contains new g → Contains old g ⊎ IsRefusedOn w h g
   pub kept : (g : Event) → Contains old g → Contains new g
@@ -48,7 +48,7 @@ pub record AreAsked (w : Fixed Rest) (h : Parts) (e : Event) (es old new : List 
   pub kept : (g : Event) → Contains old g → Contains new g
   pub asked : (f : Event) → Contains es f → IsSettled w h e f new
 
--- Of these events all that are refused are gone, but for what e can't refuse.
+-- Of these events all that are refused are gone, but for e itself, and what e can't refuse.
 pub record AreRefused (w : Fixed Rest) (h : Parts) (e : Event) (es gone : List Event) : Type 0 where
   pub out : (f : Event) → Contains gone f → IsRefusedOn w h f
   pub all : (f : Event) → Contains es f → IsSettled w h e f gone

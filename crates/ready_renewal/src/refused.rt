@@ -21,7 +21,7 @@ fn is_out_of_reach(reach: &Reach, sure: bool, f: Event) -> bool
     !sure && !reach.may_refuse(f)
 }
 
-/// Asks for an event again, where it may be refused, and adds it where it is.
+/// Asks for an event again, where it may be refused, and adds it where it is. The event that was just taken is not asked for.
 fn ask_again(
     tables: &Tables,
     hand: &Hand,
@@ -36,6 +36,9 @@ fn ask_again(
     requires some { OnSomeRun (fixed_of tables.now) hand.now }
     ensures { OnOk result (IsAsked (fixed_of tables.now) hand.now (event_meant reach.now.event) (event_meant f) (map event_meant gone.old.items) (map event_meant gone.new.items)) }
 {
+    if reach.is_of(f) {
+        return Ok(());
+    }
     if is_out_of_reach(reach, sure, f) {
         return Ok(());
     }
