@@ -82,7 +82,7 @@ impl<D: LogDev + Drop, O: Sink + Drop> Grip<D, O> {
         requires { part < length self.old.besides }
         ensures { self.new ≡ record self.old { besides = slice_set self.old.besides part (Some beside) } }
     {
-        let _none = self.besides[part].replace(beside);
+        self.besides[part] = Some(beside);
     }
 
     /// Takes up what stands beside a part.

@@ -118,4 +118,46 @@ impl<D: LogDev + Drop, O: Sink + Drop> Grip<D, O> {
             self.give(turns, pass, footprint.part(i));
         }
     }
+
+    /// Gives back what is held, all of which is in one footprint, but for the parts of another one.
+    pub fn keep_parts(
+        &mut self,
+        turns: &Turns<Share<D, O>>,
+        pass: &mut Pass<Share<D, O>>,
+        held: &Footprint,
+        footprint: &Footprint,
+    )
+        requires crew { IsCrew turns.now }
+        requires work { IsAtWork turns.now pass.old.seat self.old }
+        requires within { (i : ℕ) → is_among i held.now ≡ false → at (knows pass.old.seat).held i ≡ None }
+        ensures work { IsAtWork turns.now pass.new.seat self.new }
+        ensures kept { (i : ℕ) → is_among i footprint.now ≡ false → at (knows pass.new.seat).held i ≡ None }
+        ensures others { (i : ℕ) → at (knows pass.old.seat).held i ≡ None → at (knows pass.new.seat).held i ≡ None }
+        ensures rest { (pass.new.entries ≡ pass.old.entries) × (splits_of pass.new.seat ≡ splits_of pass.old.seat) }
+    {
+        for i in 0..held.len() {
+            self.give_unless(turns, pass, held.part(i), footprint);
+        }
+    }
+
+    /// Gives this part back, where it is held and is none of a footprint.
+    fn give_unless(
+        &mut self,
+        turns: &Turns<Share<D, O>>,
+        pass: &mut Pass<Share<D, O>>,
+        part: usize,
+        footprint: &Footprint,
+    )
+        requires crew { IsCrew turns.now }
+        requires work { IsAtWork turns.now pass.old.seat self.old }
+        ensures work { IsAtWork turns.now pass.new.seat self.new }
+        ensures given { is_among part footprint.now ≡ false → at (knows pass.new.seat).held part ≡ None }
+        ensures others { (i : ℕ) → at (knows pass.old.seat).held i ≡ None → at (knows pass.new.seat).held i ≡ None }
+        ensures rest { (pass.new.entries ≡ pass.old.entries) × (splits_of pass.new.seat ≡ splits_of pass.old.seat) }
+    {
+        if footprint.has(part) {
+            return;
+        }
+        self.give(turns, pass, part);
+    }
 }

@@ -2,15 +2,14 @@
 //! parts at hand. So a hint for which there is no memory is left out, and a look finds the event again.
 ghost use Rattle.std.specs.Prelude.{◌≤◌};
 
-use crate::finds::{Finds, put_one, take_first};
-use crate::kinds::{Kind, kind_of};
-use core_events::{Event, FIRST_LOG, Footprint, footprint, part_of_log};
-use ready_list::ReadyList;
+use crate::finds::Finds;
+use crate::shelves::Shelf;
+use core_events::{Event, Footprint, first_cell, part_of_log};
 use std::alloc::Global;
+use std::sync::Wait;
 use std::sync::atomic::{AtomicU64, Ordering};
-use std::sync::{Mutex, MutexGuard, Wait};
+use std::thread;
 use std::time::Duration;
-use std::{hint, thread};
 
 /// How often a worker that has nothing to do yields before it sleeps.
 const YIELDS: u64 = 64;
@@ -20,27 +19,44 @@ const NAP_MICROS: u64 = 20;
 
 const LONGEST_NAP: u64 = 10;
 
-/// How often a list is tried that another worker has. It has it for as long as a few of these tries take.
-const TRIES: usize = 32;
+/// Room for so many Runs.
+const ROOM_OF_RUNS: usize = 1_024;
 
-/// So many events that wait for a Sync, for each log, are worth one.
-const GROUP: usize = 64;
+/// Room for so many events that lack a part which is no cell, and for so many that lack a cell.
+const ROOM_OF_PART: usize = 256;
+
+const ROOM_OF_CELL: usize = 16;
+
+/// How often what lacked a part is taken over in a row: there may be more than there is room for at once.
+const TAKES: usize = 8;
 
 /// A board that all workers of a crew read and write.
 #[derive(Drop)]
 pub struct Board {
     /// How many logs there are.
     logs: u8,
+    /// Whether there is one worker alone: then it tells nobody.
+    alone: bool,
     /// Runs for whoever comes first.
-    runs: Mutex<ReadyList>,
-    /// What waits for a Sync.
-    unsynced: Mutex<ReadyList>,
-    /// What lacked a part that another worker had for long.
-    blocked: Mutex<ReadyList>,
+    runs: Shelf,
+    /// What needs the ring, the book, the post or the desk, for the worker that is at the hub.
+    hub_events: Shelf,
+    /// 1 while a worker is at the hub.
+    hub: AtomicU64,
+    /// By the number of a part, what lacked it while a worker had it.
+    lacking: Vec<Shelf>,
+    /// By the number of a log, how many of its records wait for a Sync.
+    waiting: Vec<AtomicU64>,
     /// By the number of a part, 1 where an event touched it since a look had it.
     touched: Vec<AtomicU64>,
     /// 1 while a worker has the lead.
     looking: AtomicU64,
+    /// How many have something to try.
+    working: AtomicU64,
+    /// How many sleep.
+    resting: AtomicU64,
+    /// 1 where a sleeper was woken that has not come yet.
+    woken: AtomicU64,
     /// 1 once a worker has ended.
     ended: AtomicU64,
     ghost some: { 1 ≤ logs },
@@ -58,166 +74,206 @@ impl<'a> Drop for Lead<'a> {
     }
 }
 
-/// So many words that are 1, as far as there is memory for them.
-fn all_touched(alloc: Global, parts: usize) -> Vec<AtomicU64> {
-    let mut touched = Vec::new(alloc);
-    for _part in 0..parts {
-        if touched.push(AtomicU64::new(1)).is_err() {
+/// So many words of this value, as far as there is memory for them.
+fn words(alloc: Global, count: usize, value: u64) -> Vec<AtomicU64> {
+    let mut words = Vec::new(alloc);
+    for _word in 0..count {
+        if words.push(AtomicU64::new(value)).is_err() {
             break;
         }
     }
-    touched
+    words
 }
 
-/// The list, unless another worker keeps it.
-fn open(list: &Mutex<ReadyList>) -> Option<MutexGuard<'_, ReadyList>> {
-    for _try in 0..TRIES {
-        let opened = list.try_lock();
-        if opened.is_some() {
-            return opened;
-        }
-        hint::spin_loop();
-    }
-    None
-}
-
-/// Puts an event into the list, as far as there is memory for it, unless another worker keeps the list. How many stand there then.
-fn put_in(list: &Mutex<ReadyList>, e: Event) -> usize {
-    let Some(mut list) = open(list) else {
-        return 0;
-    };
-    let _kept = put_one(&mut list, e);
-    list.count()
-}
-
-/// Whether one of these parts is a log or a cell. Who has such a part may have it for as long as a sync or a slice takes.
-fn has_long(parts: &Footprint) -> bool {
-    for i in 0..parts.len() {
-        if parts.part(i) >= FIRST_LOG {
-            return true;
+/// A list for each of so many parts, of which those from a number on are cells; as far as there is memory for them.
+fn shelves(alloc: Global, parts: usize, cells: usize) -> Vec<Shelf> {
+    let mut shelves = Vec::new(alloc);
+    for part in 0..parts {
+        let room = if part < cells {
+            ROOM_OF_PART
+        } else {
+            ROOM_OF_CELL
+        };
+        if shelves.push(Shelf::new(alloc, room)).is_err() {
+            break;
         }
     }
-    false
-}
-
-/// Whether a log or a cell is among both.
-fn share_long(parts: &Footprint, others: &Footprint) -> bool {
-    for i in 0..parts.len() {
-        if parts.part(i) >= FIRST_LOG && others.has(parts.part(i)) {
-            return true;
-        }
-    }
-    false
+    shelves
 }
 
 impl Board {
-    /// A board for so many parts, none of which a look had yet, and of which so many are logs. Where there is no memory for a
-    /// part's word, it is taken for touched always.
-    pub fn new(alloc: Global, parts: usize, logs: u8) -> Self
+    /// A board for so many parts, none of which a look had yet, and of which so many are logs; and for so many workers. Where there
+    /// is no memory for a part's word, it is taken for touched always.
+    pub fn new(alloc: Global, parts: usize, logs: u8, workers: usize) -> Self
         requires { 1 ≤ logs }
     {
         Board {
             logs,
-            runs: Mutex::new(ReadyList::new(alloc)),
-            unsynced: Mutex::new(ReadyList::new(alloc)),
-            blocked: Mutex::new(ReadyList::new(alloc)),
-            touched: all_touched(alloc, parts),
+            alone: workers == 1,
+            runs: Shelf::new(alloc, ROOM_OF_RUNS),
+            hub_events: Shelf::new(alloc, ROOM_OF_RUNS),
+            hub: AtomicU64::new(0),
+            lacking: shelves(alloc, parts, first_cell(logs)),
+            waiting: words(alloc, logs as usize, 0),
+            touched: words(alloc, parts, 1),
             looking: AtomicU64::new(0),
+            working: AtomicU64::new(0),
+            resting: AtomicU64::new(0),
+            woken: AtomicU64::new(0),
             ended: AtomicU64::new(0),
         }
     }
 
-    /// An event that was found: a Run is for whoever comes first, and all else is left to who found it. False where there was no
-    /// memory for it.
-    pub fn keep(&self, finds: &mut Finds, e: Event) -> bool {
-        if kind_of(e) == Kind::Slice && self.post_run(e) {
-            return true;
-        }
-        finds.put(e)
+    /// Whether there is one worker alone.
+    pub fn is_alone(&self) -> bool {
+        self.alone
     }
 
-    /// A Run for whoever comes first. False where there was no room for it, or another worker had the list.
-    fn post_run(&self, e: Event) -> bool {
-        let Some(mut runs) = open(&self.runs) else {
-            return false;
-        };
-        put_one(&mut runs, e)
+    /// The Runs that a worker found are for whoever comes first. Where there is no room for one, it stays with the worker.
+    pub fn post_runs(&self, finds: &mut Finds) {
+        if self.alone {
+            return;
+        }
+        for _run in 0..ROOM_OF_RUNS {
+            let Some(e) = finds.next_run() else {
+                break;
+            };
+            if !self.runs.put(e) {
+                let _kept = finds.put(e);
+                break;
+            }
+        }
+        if self.runs.count() > 1 {
+            self.wake();
+        }
     }
 
     /// The first Run, which stands here no more; `None` where there is none, or another worker had the list.
     pub fn take_run(&self) -> Option<Event> {
-        let mut runs = open(&self.runs)?;
-        take_first(&mut runs)
+        self.runs.take_first()
     }
 
-    /// An event that waits for a Sync. Where much waits, Syncs of the event's logs are left to try.
-    pub fn wait(&self, finds: &mut Finds, e: Event) {
-        if put_in(&self.unsynced, e) < GROUP * self.logs as usize {
-            return;
+    /// Whether the worker is at the hub now, which was not there: not where another one is.
+    pub fn enter_hub(&self) -> bool {
+        self.alone || self.hub.swap(1, Ordering::SeqCst) == 0
+    }
+
+    /// The worker that was at the hub is not there any more. Who is next at the hub looks for what was left there.
+    pub fn leave_hub(&self) {
+        self.hub.store(0, Ordering::SeqCst);
+    }
+
+    /// Whether something was left for who is at the hub.
+    pub fn has_hub_event(&self) -> bool {
+        self.hub_events.count() != 0
+    }
+
+    /// An event is left to who is at the hub. False where it could not be left.
+    pub fn leave_at_hub(&self, e: Event) -> bool {
+        self.hub_events.put(e)
+    }
+
+    /// What was left for who is at the hub is taken over.
+    pub fn take_over_hub(&self, finds: &mut Finds) {
+        for _take in 0..TAKES {
+            if !self.has_hub_event() {
+                return;
+            }
+            self.hub_events.take_all(&mut finds.heard);
+            finds.keep_heard();
         }
-        let parts = footprint(e, self.logs);
+    }
+
+    /// So many records of this log wait for a Sync.
+    pub fn set_waiting(&self, l: u8, count: u64) {
+        if let Some(word) = self.waiting.get(l as usize) {
+            if word.load(Ordering::SeqCst) != count {
+                word.store(count, Ordering::SeqCst);
+            }
+        }
+    }
+
+    /// The Sync of the log in which most records wait for one, of those logs for which nobody waits.
+    pub fn due_sync(&self) -> Option<Event> {
+        let mut most = 0;
+        let mut due = None;
         for l in 0..self.logs {
-            if parts.has(part_of_log(l)) {
-                let _kept = finds.put(Event::Sync(l));
+            let waiting = self.waiting_in(l);
+            if waiting > most && self.lack_of(part_of_log(l)) == 0 {
+                most = waiting;
+                due = Some(Event::Sync(l));
             }
         }
+        due
     }
 
-    /// The log of this Sync, which has these parts, was synced: what waited for that is left to try.
-    pub fn end_wait(&self, finds: &mut Finds, parts: &Footprint, sync: Event) {
-        self.take_from(&self.unsynced, finds, parts, sync);
-    }
-
-    /// An event that lacked a part that another worker had for long. Whether it did not stand here yet: then it is to be tried once more,
-    /// since that worker may have looked here before.
-    pub fn block(&self, e: Event) -> bool {
-        let Some(mut blocked) = open(&self.blocked) else {
-            return true;
-        };
-        let before = blocked.count();
-        let _kept = put_one(&mut blocked, e);
-        before < blocked.count()
-    }
-
-    /// These parts were given back behind this event, done or refused: what lacked a log or a cell among them is left to try. Who
-    /// finds such a part held stands here before it tries again, so one of the two sees the other.
-    pub fn unblock(&self, finds: &mut Finds, parts: &Footprint, tried: Event) {
-        if has_long(parts) {
-            self.take_from(&self.blocked, finds, parts, tried);
+    /// How many records of this log wait for a Sync.
+    fn waiting_in(&self, l: u8) -> u64 {
+        match self.waiting.get(l as usize) {
+            Some(word) => word.load(Ordering::SeqCst),
+            None => 0,
         }
     }
 
-    /// What shares a log or a cell with these parts stands in the list no more, and is left to try, but for the event that was tried.
-    /// Where there is no memory for that, it stays; and all stays where another worker has the list.
-    fn take_from(
-        &self,
-        list: &Mutex<ReadyList>,
-        finds: &mut Finds,
-        parts: &Footprint,
-        tried: Event,
-    ) {
-        let Some(mut list) = open(list) else {
+    /// How many events lack this part.
+    fn lack_of(&self, part: usize) -> u64 {
+        match self.lacking.get(part) {
+            Some(shelf) => shelf.count(),
+            None => 0,
+        }
+    }
+
+    /// An event that lacked this part is left to the worker that has the part. False where it could not be left: then it stays with
+    /// who found it. Who leaves an event tries to get the part once more behind that, and who gives a part back looks for what lacked
+    /// it behind that. So one of the two sees the other.
+    pub fn leave(&self, part: usize, e: Event) -> bool {
+        match self.lacking.get(part) {
+            Some(shelf) => shelf.put(e),
+            None => false,
+        }
+    }
+
+    /// What lacked this part is taken over.
+    pub fn take_over(&self, part: usize, finds: &mut Finds) {
+        for _take in 0..TAKES {
+            if self.lack_of(part) == 0 {
+                return;
+            }
+            if let Some(shelf) = self.lacking.get(part) {
+                shelf.take_all(&mut finds.heard);
+            }
+            finds.keep_heard();
+        }
+    }
+
+    /// What lacked this part is taken over, where that is asked for.
+    pub fn take_over_if(&self, asked: bool, part: usize, finds: &mut Finds) {
+        if asked {
+            self.take_over(part, finds);
+        }
+    }
+
+    /// What lacked one of those parts for which there is a bit, from the lowest on, is taken over.
+    pub fn take_over_those(&self, parts: &Footprint, those: u32, finds: &mut Finds) {
+        if self.alone {
             return;
-        };
-        let count = list.count();
-        for i in 0..count {
-            if let Some(e) = list.nth(count - 1 - i) {
-                if share_long(parts, &footprint(e, self.logs)) && (e == tried || finds.put(e)) {
-                    list.take(e);
-                }
+        }
+        let mut left = those;
+        for part in parts.as_slice() {
+            if left % 2 == 1 {
+                self.take_over(*part, finds);
             }
+            left /= 2;
         }
     }
 
-    /// All parts of a look were given back: what lacked one is left to try.
-    pub fn unblock_all(&self, finds: &mut Finds) {
-        let Some(mut blocked) = open(&self.blocked) else {
+    /// What lacked any part is taken over.
+    pub fn take_over_each(&self, finds: &mut Finds) {
+        if self.alone {
             return;
-        };
-        for _event in 0..blocked.count() {
-            if let Some(e) = take_first(&mut blocked) {
-                let _kept = finds.put(e);
-            }
+        }
+        for part in 0..self.lacking.len() {
+            self.take_over(part, finds);
         }
     }
 
@@ -231,19 +287,26 @@ impl Board {
 
     fn set_touched(&self, part: usize, value: u64) {
         if let Some(word) = self.touched.get(part) {
-            word.store(value, Ordering::SeqCst);
+            if word.load(Ordering::SeqCst) != value {
+                word.store(value, Ordering::SeqCst);
+            }
         }
     }
 
-    /// A look has this part.
+    /// A look has this part. A worker alone looks at all parts each time.
     pub fn is_looked_at(&self, part: usize) {
-        self.set_touched(part, 0);
+        if !self.alone {
+            self.set_touched(part, 0);
+        }
     }
 
     /// An event touched these parts, or was found for them and not done.
     pub fn touch(&self, parts: &Footprint) {
-        for i in 0..parts.len() {
-            self.set_touched(parts.part(i), 1);
+        if self.alone {
+            return;
+        }
+        for part in parts.as_slice() {
+            self.set_touched(*part, 1);
         }
     }
 
@@ -256,6 +319,21 @@ impl Board {
         }
     }
 
+    /// A worker has something to try.
+    pub fn begin_work(&self) {
+        self.working.fetch_add(1, Ordering::SeqCst);
+    }
+
+    /// It has nothing to try.
+    pub fn end_work(&self) {
+        self.working.fetch_sub(1, Ordering::SeqCst);
+    }
+
+    /// Whether a worker has something to try.
+    pub fn has_work(&self) -> bool {
+        self.working.load(Ordering::SeqCst) != 0
+    }
+
     /// Whether a worker has ended.
     pub fn has_ended(&self) -> bool {
         self.ended.load(Ordering::SeqCst) != 0
@@ -264,17 +342,30 @@ impl Board {
     /// A worker has ended; who sleeps wakes.
     pub fn end(&self) {
         self.ended.store(1, Ordering::SeqCst);
-        self.ended.wake_all();
+        self.woken.store(1, Ordering::SeqCst);
+        self.woken.wake_all();
     }
 
-    /// Lets others work: first for a moment, then for longer and longer, up to a limit, unless a worker ends.
+    /// One that sleeps wakes, unless one was woken that has not come yet.
+    fn wake(&self) {
+        if self.resting.load(Ordering::SeqCst) > 0 && self.woken.swap(1, Ordering::SeqCst) == 0 {
+            self.woken.wake_one();
+        }
+    }
+
+    /// Lets others work: first for a moment, then for longer and longer, up to a limit, unless there is something to do.
     pub fn rest<R: Wait>(&self, rt: &R, rests: u64) {
         if rests < YIELDS {
             thread::yield_now();
-        } else {
-            let times = (rests - YIELDS).min(LONGEST_NAP - 1) + 1;
-            self.ended
+            return;
+        }
+        let times = (rests - YIELDS).min(LONGEST_NAP - 1) + 1;
+        self.resting.fetch_add(1, Ordering::SeqCst);
+        if self.runs.count() == 0 && !self.has_ended() {
+            self.woken
                 .park_timeout(rt, 0, Duration::from_micros(NAP_MICROS * times));
         }
+        self.resting.fetch_sub(1, Ordering::SeqCst);
+        self.woken.store(0, Ordering::SeqCst);
     }
 }

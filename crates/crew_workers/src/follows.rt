@@ -2,12 +2,13 @@
 //! others.
 ghost use Rattle.snap_hand.specs.Tables.{AreTables};
 
-use core_events::{BOOK, DESK, Event, POST};
-use ready_listing::{list_place, list_ring, push_one, push_two};
+use core_events::{BOOK, DESK, Event, POST, RING, part_of_log};
+use ready_listing::{list_place, next_holder, push_one};
 use snap_base::{ActorId, Bid, Memory, Tid, TxNo, Who};
-use snap_hand::{BookPart, Control, Desk, Hand, Post, Tables};
+use snap_hand::{BookPart, CellPart, Control, Desk, Hand, Post, Ring, Tables};
 use snap_work::MOST_BATCHES;
 use std::alloc::Global;
+use txn_records::Key;
 
 /// How many transactions are submitted in a row. Between two rows the batches of the first are under way.
 const SUBMITS_IN_A_ROW: u32 = 256;
@@ -20,95 +21,108 @@ pub(crate) struct AtHand<'a> {
     pub hand: &'a Hand,
 }
 
-/// What an event may have made allowed.
-#[derive(Drop)]
-pub(crate) struct Follows {
-    /// At once.
-    pub events: Vec<Event>,
-    /// Once the record that the event added is durable.
-    pub durable: Option<Event>,
+/// Lists what the event, which was done with these parts at hand, may have made allowed. `Memory` leaves some of it. Each event is
+/// named here, so that a new one does not compile before it is thought of.
+pub(crate) fn list_follows(at: &AtHand, e: Event, events: &mut Vec<Event>) -> Result<(), Memory>
+    requires { AreTables at.now.tables.now }
+{
+    match e {
+        // By the ring.
+        Event::Submit(n) => list_submit(at, n, events),
+        Event::Pass(_) => list_ring(at, events),
+        Event::Form(k) => list_formed(at, k, events),
+        Event::Admit(t) => list_admitted(at, t, events),
+        // On an actor.
+        Event::Arrive(k, a) => list_arrived(at, k, a, events),
+        Event::Ask(t, a) => list_asked(at, t, a, events),
+        Event::Take(t, a) => push_one(events, Event::Run(t, a)),
+        Event::Run(t, a) => list_outcome(at, t, a, events),
+        Event::Send(t, _) => list_control(at.hand, t, events),
+        Event::End(t, a) => list_ended(at, t, a, events),
+        Event::Close(_, a) | Event::Complete(_, a) | Event::Finish(_, a) => {
+            list_wakes(at, a, events)
+        }
+        Event::Prepare(_, _) => Ok(()),
+        Event::Rollback(a) => list_back(at, a, events),
+        // Of a batch.
+        Event::Note(k, _) => list_noted(at.hand, k, events),
+        Event::Commit(k) => list_committed(at.tables, k, events),
+        Event::Settle(k) => list_settled(at, k, events),
+        Event::Trim(k, _) => list_gone(at, k, events),
+        Event::AbortBatch(k) => list_aborted(at, k, events),
+        Event::DropSub(_, _) => Ok(()),
+        // Of an ACT.
+        Event::Vouch(t, _) => list_vouched(at.hand, t, events),
+        Event::Decide(t) | Event::Seal(t) => list_leaving(at, t, events),
+        Event::DropControl(_) => Ok(()),
+        // To the outside. What a Sync makes allowed is listed ahead of it.
+        Event::Sync(_) | Event::Reply(_) => Ok(()),
+    }
 }
 
-impl Follows {
-    /// Nothing yet.
-    pub fn new(alloc: Global) -> Self {
-        Follows {
-            events: Vec::new(alloc),
-            durable: None,
+/// Where an event may have made something allowed, and what tells it is not at hand behind the event.
+#[derive(Clone, Copy, Debug, PartialEq, Eq)]
+pub(crate) enum Mark {
+    /// The ring may go on, since there is a place for one more ACT.
+    Ring,
+    /// ACTs may be decided whose commit records go to this log, since a batch is settled.
+    Book(u8),
+}
+
+impl Mark {
+    /// An event whose parts tell what the mark is for.
+    pub fn event(self) -> Event {
+        match self {
+            Mark::Ring => Event::Submit(TxNo(0)),
+            Mark::Book(l) => Event::Decide(Tid(l as u64)),
         }
     }
 
-    /// Lists what the event, which was done with these parts at hand, may have made allowed. `Memory` leaves some of it. Each event is
-    /// named here, so that a new one does not compile before it is thought of.
-    pub fn list(&mut self, at: &AtHand, e: Event) -> Result<(), Memory>
+    /// Lists what these parts tell.
+    pub fn list(self, at: &AtHand, events: &mut Vec<Event>) -> Result<(), Memory>
         requires { AreTables at.now.tables.now }
     {
-        self.durable = behind_sync(e);
-        let events = &mut self.events;
-        match e {
-            // By the ring.
-            Event::Submit(n) => list_submit(n, events),
-            Event::Pass(_) => list_ring(at.tables, at.hand, events),
-            Event::Form(k) => list_formed(at, k, events),
-            Event::Admit(t) => list_control(at.hand, t, events),
-            // On an actor.
-            Event::Arrive(_, a) => list_arrived(at, a, events),
-            Event::Ask(t, a) => list_asked(at.hand, t, a, events),
-            Event::Take(t, a) => push_one(events, Event::Run(t, a)),
-            Event::Run(t, a) => list_outcome(at.hand, t, a, events),
-            Event::Send(t, _) => list_control(at.hand, t, events),
-            Event::End(t, a) => list_ended(at, t, a, events),
-            Event::Close(_, a) | Event::Complete(_, a) => list_next(at, a, events),
-            Event::Finish(_, a) => list_turns(at, a, events),
-            Event::Prepare(_, _) | Event::Rollback(_) => Ok(()),
-            // Of a batch.
-            Event::Note(k, _) => push_one(events, Event::Commit(k)),
-            Event::Commit(k) => list_committed(at.tables, k, events),
-            Event::Settle(k) => list_settled(at, k, events),
-            Event::Trim(k, _) => list_gone(at, k, events),
-            Event::AbortBatch(k) => list_aborted(at, k, events),
-            Event::DropSub(_, _) => Ok(()),
-            // Of an ACT.
-            Event::Vouch(t, _) => push_one(events, Event::Decide(t)),
-            Event::Decide(t) | Event::Seal(t) => list_leaving(at, t, events),
-            Event::DropControl(_) => Ok(()),
-            // To the outside. What waited for a Sync stands on the board.
-            Event::Sync(_) | Event::Reply(_) => Ok(()),
+        match self {
+            Mark::Ring => list_all_next(at, events),
+            Mark::Book(l) => list_decisions(at, l, events),
         }
     }
 }
 
-/// What waits for the record that the event adds. Each event is named here too.
-fn behind_sync(e: Event) -> Option<Event> {
+/// Whether there is a place for one more ACT, of as many as may be live, since one of as many is over.
+pub(crate) fn frees_place(at: &AtHand, e: Event) -> bool {
     match e {
-        Event::Form(k) => Some(Event::Commit(k)),
-        Event::Complete(k, a) => Some(Event::Note(k, a)),
-        Event::Prepare(t, a) => Some(Event::Vouch(t, a)),
-        Event::Commit(k) => Some(Event::Settle(k)),
-        Event::Decide(t) => Some(Event::Seal(t)),
-        Event::Submit(_)
-        | Event::Pass(_)
-        | Event::Admit(_)
-        | Event::Arrive(_, _)
-        | Event::Ask(_, _)
-        | Event::Take(_, _)
-        | Event::Run(_, _)
-        | Event::Send(_, _)
-        | Event::End(_, _)
-        | Event::Close(_, _)
-        | Event::Finish(_, _)
-        | Event::Rollback(_)
-        | Event::Note(_, _)
-        | Event::Settle(_)
-        | Event::Trim(_, _)
-        | Event::AbortBatch(_)
-        | Event::DropSub(_, _)
-        | Event::Vouch(_, _)
-        | Event::Seal(_)
-        | Event::DropControl(_)
-        | Event::Sync(_)
-        | Event::Reply(_) => None,
+        Event::Ask(_, _) | Event::Finish(_, _) | Event::Decide(_) | Event::Seal(_) => {
+            match on_book(at.hand) {
+                Some(book) => book.live().wrapping_add(1) == at.tables.work.acts as usize,
+                None => false,
+            }
+        }
+        _ => false,
     }
+}
+
+/// What the records that wait in a log are about; nothing, where the log is not at hand.
+pub(crate) fn waiting_keys(hand: &Hand, l: u8) -> &[Key] {
+    if !hand.has_log(l) || !hand.has(part_of_log(l)) {
+        return &[];
+    }
+    hand.log(l as usize).waiting_keys()
+}
+
+/// Lists what a Sync of this log will make allowed, with the log at hand ahead of it: what the records wait for that it makes durable.
+pub(crate) fn list_foreseen(hand: &Hand, l: u8, events: &mut Vec<Event>) -> Result<(), Memory> {
+    for key in waiting_keys(hand, l) {
+        match *key {
+            Key::Genesis | Key::Checkpoint => {}
+            Key::Info(k) => push_one(events, Event::Commit(k))?,
+            Key::Complete(k, a) => push_one(events, Event::Note(k, a))?,
+            Key::Commit(k) => push_one(events, Event::Settle(k))?,
+            Key::Prepare(t, a) => push_one(events, Event::Vouch(t, a))?,
+            Key::Act(t) => push_one(events, Event::Seal(t))?,
+        }
+    }
+    Ok(())
 }
 
 /// The post, where it is at hand.
@@ -152,19 +166,105 @@ fn push_each<T: Copy, F: Fn(T) -> Event>(
     Ok(())
 }
 
-/// The next transaction, as far as the row goes.
-fn list_submit(n: TxNo, events: &mut Vec<Event>) -> Result<(), Memory> {
+/// The next transaction, as far as the row goes; behind it what the ring has next.
+fn list_submit(at: &AtHand, n: TxNo, events: &mut Vec<Event>) -> Result<(), Memory>
+    requires { AreTables at.now.tables.now }
+{
     if n.0 % SUBMITS_IN_A_ROW == SUBMITS_IN_A_ROW - 1 {
-        return Ok(());
+        return list_ring(at, events);
     }
     push_one(events, Event::Submit(TxNo(n.0.wrapping_add(1))))
+}
+
+/// The ring, where it is at hand.
+fn on_ring(hand: &Hand) -> Option<&Ring> {
+    if hand.has(RING) {
+        Some(hand.ring())
+    } else {
+        None
+    }
+}
+
+/// What the ring has next, but the next transaction: the token goes on, the next batch is formed, and the next ACT is admitted, where there
+/// may be one more as far as the parts at hand tell.
+fn list_ring(at: &AtHand, events: &mut Vec<Event>) -> Result<(), Memory>
+    requires { AreTables at.now.tables.now }
+{
+    let Some(ring) = on_ring(at.hand) else {
+        return Ok(());
+    };
+    if ring.is_holder_idle() {
+        push_one(events, Event::Pass(next_holder(at.tables, ring.holder())))?;
+    }
+    if ring.has_pact() && has_place_for_batch(at) {
+        push_one(events, Event::Form(ring.next_bid()))?;
+    }
+    if ring.has_act() && has_place_for_act(at) {
+        push_one(events, Event::Admit(ring.next_tid()))?;
+    }
+    Ok(())
+}
+
+/// The control of an ACT that was admitted comes to where it goes, the token goes on, and the next ACT is admitted.
+fn list_admitted(at: &AtHand, t: Tid, events: &mut Vec<Event>) -> Result<(), Memory>
+    requires { AreTables at.now.tables.now }
+{
+    list_control(at.hand, t, events)?;
+    let Some(ring) = on_ring(at.hand) else {
+        return Ok(());
+    };
+    if ring.is_holder_idle() {
+        push_one(events, Event::Pass(next_holder(at.tables, ring.holder())))?;
+    }
+    if ring.has_act() && has_place_for_act(at) {
+        push_one(events, Event::Admit(ring.next_tid()))?;
+    }
+    Ok(())
+}
+
+fn has_place_for_batch(at: &AtHand) -> bool {
+    match on_desk(at.hand) {
+        Some(desk) => desk.live() < at.tables.work.batches as u32,
+        None => true,
+    }
+}
+
+fn has_place_for_act(at: &AtHand) -> bool {
+    match on_book(at.hand) {
+        Some(book) => book.live() < at.tables.work.acts as usize,
+        None => true,
+    }
+}
+
+/// All that the ring has next, the next transaction among it.
+fn list_all_next(at: &AtHand, events: &mut Vec<Event>) -> Result<(), Memory>
+    requires { AreTables at.now.tables.now }
+{
+    if let Some(ring) = on_ring(at.hand) {
+        push_one(events, Event::Submit(ring.next_tx()))?;
+    }
+    list_ring(at, events)
+}
+
+/// The decisions of the live ACTs whose commit records go to this log, and of which all actors are prepared.
+fn list_decisions(at: &AtHand, l: u8, events: &mut Vec<Event>) -> Result<(), Memory> {
+    let Some(book) = on_book(at.hand) else {
+        return Ok(());
+    };
+    let logs = at.tables.work.logs;
+    for t in &book.going(at.alloc)? {
+        if logs > 0 && t.0 % logs as u64 == l as u64 {
+            list_vouched(at.hand, *t, events)?;
+        }
+    }
+    Ok(())
 }
 
 /// What the ring does next, and that the batch comes to its actors.
 fn list_formed(at: &AtHand, k: Bid, events: &mut Vec<Event>) -> Result<(), Memory>
     requires { AreTables at.now.tables.now }
 {
-    list_ring(at.tables, at.hand, events)?;
+    list_ring(at, events)?;
     match on_desk(at.hand) {
         Some(desk) => push_each(
             events,
@@ -186,7 +286,7 @@ fn list_control(hand: &Hand, t: Tid, events: &mut Vec<Event>) -> Result<(), Memo
     }
 }
 
-/// The control comes to this actor; only one of an ACT asks first.
+/// The control comes to this actor. One of an ACT asks first; where it is refused, it may have been placed there before.
 fn list_comer(
     post: &Post<Control>,
     t: Tid,
@@ -194,22 +294,39 @@ fn list_comer(
     events: &mut Vec<Event>,
 ) -> Result<(), Memory> {
     match post.control_who(t) {
-        Some(Who::Act(_)) => push_two(events, Event::Ask(t, a), Event::Take(t, a)),
+        Some(Who::Act(_)) => push_one(events, Event::Ask(t, a)),
         Some(Who::Batch(_)) | None => push_one(events, Event::Take(t, a)),
     }
 }
 
-/// The sub-batches that go to this actor come there, one behind the other, and the controls.
-fn list_arrived(at: &AtHand, a: ActorId, events: &mut Vec<Event>) -> Result<(), Memory> {
+/// The control of an ACT that may not ask at the actor comes there.
+pub(crate) fn list_refused(e: Event, events: &mut Vec<Event>) -> Result<(), Memory> {
+    match e {
+        Event::Ask(t, a) => push_one(events, Event::Take(t, a)),
+        _ => Ok(()),
+    }
+}
+
+/// The sub-batch that follows this one to the actor comes there, and the controls of its PACTs.
+fn list_arrived(at: &AtHand, k: Bid, a: ActorId, events: &mut Vec<Event>) -> Result<(), Memory> {
     let Some(post) = on_post(at.hand) else {
         return Ok(());
     };
-    push_each(
-        events,
-        &post.subs_to(at.alloc, a)?,
-        |(k, b)| Event::Arrive(k, b),
-    )?;
-    list_coming(at, a, events)
+    for (j, b) in &post.subs_to(at.alloc, a)? {
+        match post.sub_head(*j, *b) {
+            Some(head) if head.prev == k => push_one(events, Event::Arrive(*j, *b))?,
+            Some(_) | None => {}
+        }
+    }
+    let Some(cell) = on_cell(at.hand, a) else {
+        return Ok(());
+    };
+    for t in &cell.undone_by(at.alloc, k)? {
+        if post.control_to(*t) == Some(a) {
+            push_one(events, Event::Take(*t, a))?;
+        }
+    }
+    Ok(())
 }
 
 /// The controls that go to this actor come there.
@@ -224,68 +341,106 @@ pub(crate) fn list_coming(at: &AtHand, a: ActorId, events: &mut Vec<Event>) -> R
 }
 
 /// The ACT, which was placed on the actor or died there, runs, since its control came along, or is answered.
-fn list_asked(hand: &Hand, t: Tid, a: ActorId, events: &mut Vec<Event>) -> Result<(), Memory> {
+fn list_asked(at: &AtHand, t: Tid, a: ActorId, events: &mut Vec<Event>) -> Result<(), Memory> {
     push_one(events, Event::Run(t, a))?;
-    list_answer(hand, t, events)
+    list_leaving(at, t, events)
+}
+
+/// The cell of an actor, where it is at hand.
+fn on_cell(hand: &Hand, a: ActorId) -> Option<&CellPart<Control>> {
+    if !hand.has_actor(a) || !hand.has_cell(a) {
+        return None;
+    }
+    Some(hand.cell(a))
+}
+
+/// Who waits at the actor and may run, and the batch that can be completed there.
+fn list_wakes(at: &AtHand, a: ActorId, events: &mut Vec<Event>) -> Result<(), Memory> {
+    let Some(cell) = on_cell(at.hand, a) else {
+        return Ok(());
+    };
+    push_each(events, &cell.runnable(at.alloc)?, |t| Event::Run(t, a))?;
+    match cell.completable() {
+        Some(k) => push_one(events, Event::Complete(k, a)),
+        None => Ok(()),
+    }
 }
 
 /// The control goes on behind the slice, or the transaction ends.
-fn list_outcome(hand: &Hand, t: Tid, a: ActorId, events: &mut Vec<Event>) -> Result<(), Memory> {
-    if !hand.has_actor(a) || !hand.has_cell(a) {
+fn list_outcome(at: &AtHand, t: Tid, a: ActorId, events: &mut Vec<Event>) -> Result<(), Memory> {
+    let Some(cell) = on_cell(at.hand, a) else {
         return Ok(());
+    };
+    if cell.has_going(t) {
+        push_one(events, Event::Send(t, a))?;
     }
-    if hand.cell(a).has_going(t) {
-        push_one(events, Event::Send(t, a))
-    } else {
-        push_one(events, Event::End(t, a))
+    if cell.has_ended(t) {
+        push_one(events, Event::End(t, a))?;
     }
+    list_wakes(at, a, events)
 }
 
-/// The transaction ended on the actor: an ACT adds its record there, a PACT owes the actor nothing more, others follow it, or it is
-/// answered.
+/// The transaction ended on the actor: an ACT is prepared on its actors or decided, a PACT owes the actor nothing more, others follow
+/// it, or it is answered.
 fn list_ended(at: &AtHand, t: Tid, a: ActorId, events: &mut Vec<Event>) -> Result<(), Memory> {
-    match on_book(at.hand) {
-        Some(book) if book.tx_of(t).is_some() => push_one(events, Event::Prepare(t, a))?,
-        Some(_) | None => push_one(events, Event::Close(t, a))?,
+    let Some(book) = on_book(at.hand) else {
+        return Ok(());
+    };
+    if book.tx_of(t).is_none() {
+        push_one(events, Event::Close(t, a))?;
+        return list_ends(at, events);
     }
-    list_next(at, a, events)?;
+    list_vouched(at.hand, t, events)?;
+    if book.has_value(t) {
+        push_each(
+            events,
+            &book.actors_of(at.alloc, t)?,
+            |b| Event::Prepare(t, b),
+        )?;
+    }
     list_answer(at.hand, t, events)
 }
 
-/// What lies at an actor, where its cell is at hand.
-fn lying_at(at: &AtHand, a: ActorId) -> Result<Vec<Event>, Memory> {
-    let mut lying = Vec::new(at.alloc);
-    if at.hand.has_actor(a) {
-        list_place(at.alloc, at.hand, a, &mut lying)?;
+/// How the next batch ends, where it may.
+fn list_ends(at: &AtHand, events: &mut Vec<Event>) -> Result<(), Memory> {
+    let Some(desk) = on_desk(at.hand) else {
+        return Ok(());
+    };
+    let Some(k) = desk.next() else {
+        return Ok(());
+    };
+    if desk.first_failed(k).is_some() {
+        push_one(events, Event::AbortBatch(k))?;
     }
-    Ok(lying)
+    list_commit(desk, k, events)
 }
 
-/// The first PACT that is not done on the actor comes there and runs, and batches are complete there.
-fn list_next(at: &AtHand, a: ActorId, events: &mut Vec<Event>) -> Result<(), Memory> {
-    let mut first = true;
-    for e in &lying_at(at, a)? {
-        if let Event::Complete(_, _) = *e {
-            push_one(events, *e)?;
-        }
-        if let Event::Close(t, b) = *e {
-            if first {
-                first = false;
-                push_two(events, Event::Take(t, b), Event::Run(t, b))?;
-            }
-        }
+/// The batch commits, where it is noted on all its actors.
+fn list_commit(desk: &Desk, k: Bid, events: &mut Vec<Event>) -> Result<(), Memory> {
+    if desk.all_noted(k) && desk.all_ended_well(k) {
+        push_one(events, Event::Commit(k))
+    } else {
+        Ok(())
     }
-    Ok(())
 }
 
-/// Where an ACT leaves an actor, another one that came there may have its turn.
-fn list_turns(at: &AtHand, a: ActorId, events: &mut Vec<Event>) -> Result<(), Memory> {
-    for e in &lying_at(at, a)? {
-        if let Event::Run(_, _) = *e {
-            push_one(events, *e)?;
-        }
+/// The batch commits, where it is noted on all its actors.
+fn list_noted(hand: &Hand, k: Bid, events: &mut Vec<Event>) -> Result<(), Memory> {
+    match on_desk(hand) {
+        Some(desk) => list_commit(desk, k, events),
+        None => Ok(()),
     }
-    Ok(())
+}
+
+/// The ACT is decided, where all its actors are prepared, or it failed.
+fn list_vouched(hand: &Hand, t: Tid, events: &mut Vec<Event>) -> Result<(), Memory> {
+    match on_book(hand) {
+        Some(book) if book.is_to_decide(t) && book.is_ready(t) => push_one(
+            events,
+            Event::Decide(t),
+        ),
+        Some(_) | None => Ok(()),
+    }
 }
 
 /// The commit record of a batch becomes durable: all behind it wait for that, so it is not put off.
@@ -308,13 +463,11 @@ fn list_answers(at: &AtHand, k: Bid, events: &mut Vec<Event>) -> Result<(), Memo
 /// The replies of a batch's transactions, that it leaves its actors, and that the next one commits.
 fn list_settled(at: &AtHand, k: Bid, events: &mut Vec<Event>) -> Result<(), Memory> {
     list_answers(at, k, events)?;
-    let Some(desk) = on_desk(at.hand) else {
-        return Ok(());
-    };
-    if let Some(next) = desk.next() {
-        push_one(events, Event::Commit(next))?;
+    list_ends(at, events)?;
+    match on_desk(at.hand) {
+        Some(desk) => push_each(events, &desk.actors_of(at.alloc, k)?, |a| Event::Trim(k, a)),
+        None => Ok(()),
     }
-    push_each(events, &desk.actors_of(at.alloc, k)?, |a| Event::Trim(k, a))
 }
 
 /// Where the batch has left all its actors, the next one is formed.
@@ -322,6 +475,9 @@ fn list_gone(at: &AtHand, k: Bid, events: &mut Vec<Event>) -> Result<(), Memory>
     let Some(desk) = on_desk(at.hand) else {
         return Ok(());
     };
+    if desk.live().wrapping_add(1) != at.tables.work.batches as u32 {
+        return Ok(());
+    }
     let going = desk.going(at.alloc)?;
     match going.last() {
         Some(last) if !going.contains(&k) => {
@@ -329,6 +485,14 @@ fn list_gone(at: &AtHand, k: Bid, events: &mut Vec<Event>) -> Result<(), Memory>
         }
         _ => Ok(()),
     }
+}
+
+/// What lies at the actor, which has followed an abort.
+fn list_back(at: &AtHand, a: ActorId, events: &mut Vec<Event>) -> Result<(), Memory> {
+    if at.hand.has_actor(a) {
+        list_place(at.alloc, at.hand, a, events)?;
+    }
+    Ok(())
 }
 
 /// The replies of this batch's transactions, of those behind it, and of the ACTs that are live.

@@ -1,7 +1,16 @@
-//! Whether a worker has the lead, and how far its next look goes.
+//! Whether a worker has the lead, and what it does when it has nothing to try.
 use crate::boards::{Board, Lead};
-use crate::kinds::{Kind, kind_of, takes_long};
+use crate::kinds::{Kind, kind_of};
 use core_events::Event;
+
+/// How often a worker that has nothing to try rests, while others have something, before it syncs what they added.
+const RESTS_TO_SYNC: u64 = 68;
+
+/// How often it rests behind that before it looks for what they have yet to try.
+const RESTS_TO_LOOK: u64 = 4;
+
+/// How often it rests behind that before it looks at all parts.
+const RESTS_TO_TAKE: u64 = 32;
 
 /// How much a look takes, and what it lists.
 #[derive(Clone, Copy, Debug, PartialEq, Eq)]
@@ -25,12 +34,37 @@ pub(crate) enum Next {
     End,
 }
 
-/// Of a worker, whether it has the lead, and how far its next look goes.
+/// What a worker does that has nothing to try.
+#[derive(Clone, Copy, Debug, PartialEq, Eq)]
+pub(crate) enum Step {
+    /// It syncs a log whose records wait for that.
+    Sync,
+    /// It looks, so far.
+    Look(Scope),
+}
+
+/// How often a worker rests before this step, while others have something to try.
+fn patience(step: Step) -> u64 {
+    match step {
+        Step::Sync => RESTS_TO_SYNC,
+        Step::Look(Scope::Narrow) => RESTS_TO_LOOK,
+        Step::Look(Scope::Full) | Step::Look(Scope::Wide) => RESTS_TO_TAKE,
+    }
+}
+
+/// Of a worker, whether it has the lead, and what it does next when it has nothing to try.
 #[derive(Drop)]
 pub(crate) struct Leader<'a> {
     /// The lead, where it looked, and has not tried all yet that it found.
     lead: Option<Lead<'a>>,
-    scope: Scope,
+    /// Whether others know that it has nothing to try.
+    idle: bool,
+    /// What it does next when it has nothing to try.
+    step: Step,
+    /// How often it has rested since it looked, or did an event.
+    rests: u64,
+    /// How often it has rested since it did an event.
+    naps: u64,
 }
 
 impl<'a> Leader<'a> {
@@ -38,66 +72,101 @@ impl<'a> Leader<'a> {
     pub fn new() -> Self {
         Leader {
             lead: None,
-            scope: Scope::Narrow,
+            idle: true,
+            step: Step::Look(Scope::Narrow),
+            rests: 0,
+            naps: 0,
         }
     }
 
-    /// Takes the lead, unless another worker has it, and tells how far to look.
-    pub fn begin(&mut self, board: &'a Board) -> Option<Scope> {
+    /// How often it has rested since it did an event. It counts one rest more.
+    pub fn naps(&mut self) -> u64 {
+        let naps = self.naps;
+        self.naps = naps.saturating_add(1);
+        naps
+    }
+
+    /// It has something to try.
+    pub fn is_busy(&mut self, board: &Board) {
+        if self.idle {
+            self.idle = false;
+            board.begin_work();
+        }
+    }
+
+    /// It has nothing to try.
+    pub fn is_idle(&mut self, board: &Board) {
+        if !self.idle {
+            self.idle = true;
+            board.end_work();
+        }
+    }
+
+    /// Another worker may look: before what may take long, and where it has tried all that it found.
+    pub fn give_up(&mut self) {
+        let _given_back = self.lead.take();
+    }
+
+    /// What it does next, which has nothing to try: `None` where it rests. It goes on where no other worker has anything to try either;
+    /// else it waits for a while before it takes parts from those that have, and it looks only where it can have the lead.
+    pub fn step(&mut self, board: &'a Board) -> Option<Step> {
+        if self.rests < patience(self.step) && board.has_work() {
+            self.rests = self.rests.saturating_add(1);
+            return None;
+        }
+        if self.step == Step::Sync {
+            self.rests = 0;
+            self.step = Step::Look(Scope::Narrow);
+            return Some(Step::Sync);
+        }
         self.lead = board.lead();
         match &self.lead {
-            Some(_) => Some(self.scope),
+            Some(_) => Some(self.step),
             None => None,
         }
     }
 
-    /// Another worker may look: before what the worker tries next where that may take long, and where it has tried all that it found.
-    pub fn goes_on(&mut self, next: Option<Event>) {
-        let stays = match next {
-            Some(e) => !takes_long(e),
-            None => false,
-        };
-        if !stays {
-            let _given_back = self.lead.take();
-        }
-    }
-
-    /// An event was done. The next look is narrow; but what an abort makes allowed lies all over.
+    /// An event was done. What waits for a Sync comes next, and then a narrow look; but what an abort makes allowed lies all over.
     pub fn did(&mut self, e: Event) {
-        self.scope = if kind_of(e) == Kind::Abort {
-            Scope::Full
+        self.rests = 0;
+        self.naps = 0;
+        self.step = if kind_of(e) == Kind::Abort {
+            Step::Look(Scope::Full)
         } else {
-            Scope::Narrow
+            Step::Sync
         };
     }
 
     /// A look found something. If none of that can be done, a narrow look would find the same, so the next one takes all parts.
     pub fn found(&mut self) -> Next {
-        if self.scope == Scope::Narrow {
-            self.scope = Scope::Full;
+        if self.step == Step::Look(Scope::Narrow) {
+            self.step = Step::Look(Scope::Full);
         }
+        self.rests = 0;
         Next::Again
     }
 
-    /// A look found nothing, with all parts or not. The next one takes more at once; but only who had all parts looks wide. Where a
+    /// A look found nothing, with all parts or not. The next step takes more at once; but only who had all parts looks wide. Where a
     /// wide look had all parts, all is quiet, and the worker ends.
     pub fn nothing(&mut self, all: bool) -> Next {
-        match self.scope {
-            Scope::Narrow => self.widen(Scope::Full),
-            Scope::Full if all => self.widen(Scope::Wide),
-            Scope::Wide if all => Next::End,
-            Scope::Full | Scope::Wide => self.missed(),
+        match self.step {
+            Step::Look(Scope::Wide) if all => Next::End,
+            Step::Look(_) if all => self.goes_on(Step::Look(Scope::Wide)),
+            Step::Look(Scope::Narrow) => self.goes_on(Step::Look(Scope::Full)),
+            Step::Look(Scope::Full) | Step::Look(Scope::Wide) | Step::Sync => self.missed(),
         }
     }
 
-    fn widen(&mut self, scope: Scope) -> Next {
-        self.scope = scope;
+    fn goes_on(&mut self, step: Step) -> Next {
+        self.step = step;
+        self.rests = 0;
         Next::Again
     }
 
-    /// Others have parts without which there is nothing to find. The next look is narrow, in a while.
+    /// Others have parts without which there is nothing to find. It begins again, in a while.
     pub fn missed(&mut self) -> Next {
-        self.scope = Scope::Narrow;
+        self.step = Step::Sync;
+        self.rests = 0;
         Next::Rest
     }
 }

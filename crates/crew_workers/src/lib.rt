@@ -14,6 +14,7 @@ mod leaders;
 mod looking;
 mod rounds;
 mod sharing;
+mod shelves;
 mod threads;
 mod workers;
 

@@ -70,13 +70,20 @@ impl<'a, D: LogDev + Drop, O: Sink + Drop, G: Gate> Crew<'a, D, O, G> {
         ensures rest { (worker.new.pass.entries ≡ worker.old.pass.entries) × (splits_of worker.new.pass.seat ≡ splits_of worker.old.pass.seat) }
     {
         let taken = self.take_free(worker, scope);
-        let Worker { pass, grip, finds } = worker;
+        let Worker {
+            pass,
+            grip,
+            finds,
+            held: _,
+            hub: _,
+            row: _,
+        } = worker;
         let seen = match taken {
             Some(all) => seen_of(self.find(grip, finds, scope), all),
             None => Seen::Busy,
         };
         grip.give_all(self.turns, pass);
-        self.board.unblock_all(finds);
+        self.board.take_over_each(finds);
         seen
     }
 
@@ -136,7 +143,7 @@ impl<'a, D: LogDev + Drop, O: Sink + Drop, G: Gate> Crew<'a, D, O, G> {
         let mut found = Found::Nothing;
         for e in &listed {
             if grip.may_do(self.turns, *e) {
-                found = found.with_one(self.board.keep(finds, *e));
+                found = found.with_one(finds.put(*e));
             }
         }
         found.as_listed(all)
@@ -155,7 +162,7 @@ impl<'a, D: LogDev + Drop, O: Sink + Drop, G: Gate> Crew<'a, D, O, G> {
             match list.nth(i) {
                 None => {}
                 Some(Event::Sync(_)) => {}
-                Some(e) => found = found.with_one(self.board.keep(finds, e)),
+                Some(e) => found = found.with_one(finds.put(e)),
             }
         }
         found

@@ -1,28 +1,32 @@
 //! A worker's loop, and workers in threads.
 ghost use Rattle.std.specs.Prelude.{◌≡◌, ◌+◌, ◌<◌, All, IfOk, OnOk, OnErr};
 ghost use Rattle.crew_grip.specs.Grips.{IsCrew};
-ghost use Rattle.crew_workers.specs.Workers.{IsBetweenRounds};
+ghost use Rattle.crew_workers.specs.Workers.{IsBetweenRounds, IsInRounds};
 ghost use Rattle.turn_table.specs.Words.{HoldsNothing, IsOf, splits_of};
 
 use crate::boards::Board;
 use crate::crews::Hiring;
 use crate::finds::Finds;
-use crate::leaders::{Leader, Next};
+use crate::kinds::{needs_hub, takes_long};
+use crate::leaders::{Leader, Next, Step};
 use crate::looking::Seen;
 use crate::rounds::Round;
 use crate::sharing::Crew;
 use crate::threads::{Work, work_in_threads};
-use core_events::Event;
+use core_events::{Event, Footprint, footprint};
 use crew_grip::{Acted, Grip};
 use crew_parts::{Share, passes_stand};
-use snap_base::Memory;
+use snap_base::{Memory, TxNo};
 use snap_outside::{Gate, LogDev, Sink};
 use std::alloc::Global;
 use std::sync::Wait;
 use std::thread::Threads;
 use turn_table::{Pass, Piece, Turns};
 
-/// A worker: its pass, what it holds, and what it has left to try. Between two rounds it holds nothing.
+/// So many events a worker tries in a row before it gives back all that it holds.
+const ROW: u32 = 32;
+
+/// A worker: its pass, what it holds, and what it has left to try.
 #[derive(Drop)]
 pub struct Worker<D: LogDev + Drop, O: Sink + Drop>
 where
@@ -31,6 +35,12 @@ where
     pub(crate) pass: Pass<Share<D, O>>,
     pub(crate) grip: Grip<D, O>,
     pub(crate) finds: Finds,
+    /// Outside of these parts it holds nothing.
+    pub(crate) held: Footprint,
+    /// Whether it is at the hub: then it alone tries events that need the ring, the book, the post or the desk.
+    pub(crate) hub: bool,
+    /// How many events it has tried since it held nothing.
+    pub(crate) row: u32,
 }
 
 impl<D: LogDev + Drop, O: Sink + Drop> Worker<D, O> {
@@ -52,11 +62,15 @@ impl<D: LogDev + Drop, O: Sink + Drop> Worker<D, O> {
     {
         passes_stand(turns.tables());
         let grip = Grip::new(alloc, turns.tables())?;
+        let finds = Finds::new(alloc)?;
         let pass = turns.split(first);
         Ok(Worker {
             pass,
             grip,
-            finds: Finds::new(alloc),
+            finds,
+            held: footprint(Event::Submit(TxNo(0)), turns.tables().work.logs),
+            hub: false,
+            row: 0,
         })
     }
 
@@ -68,22 +82,25 @@ impl<D: LogDev + Drop, O: Sink + Drop> Worker<D, O> {
             pass,
             grip: _,
             finds: _,
+            held: _,
+            hub: _,
+            row: _,
         } = self;
         pass
     }
 }
 
-/// What comes after a try. A fault or want of memory ends the worker. What lacked a part is tried again, in a moment, unless it waits
-/// on the board; a look finds it too.
+/// What comes after a try. A fault or want of memory ends the worker.
 fn after_try(round: Round) -> Next {
     match round {
         Round::Looked(Acted::Broken { number: _ })
         | Round::Looked(Acted::Unready)
         | Round::Looked(Acted::Memory)
         | Round::Memory => Next::End,
-        Round::Lacking => Next::Rest,
-        Round::Looked(Acted::Done { number: _ }) | Round::Looked(Acted::NotNow) | Round::OnBoard =>
-            Next::Again,
+        Round::Looked(Acted::Done { number: _ })
+        | Round::Looked(Acted::NotNow)
+        | Round::Lacking
+        | Round::OnBoard => Next::Again,
     }
 }
 
@@ -97,48 +114,188 @@ fn after_look(leader: &mut Leader, seen: Seen) -> Next {
     }
 }
 
-/// What the worker tries next: the first of what it found, or a Run that is for whoever comes first. Before what may take long, a
-/// slice or what goes to a device or to the output, and when it has tried all that it found, another worker may look.
-fn next_try(board: &Board, finds: &mut Finds, leader: &mut Leader) -> Option<Event> {
-    let own = finds.next();
-    leader.goes_on(own);
-    if own.is_some() { own } else { board.take_run() }
+/// What the worker tries that has tried all else that it found: a Sync, then a Run that is for whoever comes first.
+fn next_long(board: &Board, finds: &mut Finds) -> Option<Event> {
+    let sync = finds.next_sync();
+    if sync.is_some() {
+        return sync;
+    }
+    let run = board.take_run();
+    if run.is_some() { run } else { finds.next_run() }
 }
 
 impl<'a, D: LogDev + Drop, O: Sink + Drop, G: Gate> Crew<'a, D, O, G> {
     /// One round of a worker: it tries an event, or looks.
     fn turn(&self, worker: &mut Worker<D, O>, leader: &mut Leader<'a>) -> Next
         requires crew { IsCrew self.now.turns.now }
-        requires free { IsBetweenRounds self.now.turns.now worker.old.pass.seat worker.old.grip }
-        ensures { IsBetweenRounds self.now.turns.now worker.new.pass.seat worker.new.grip }
+        requires free { IsInRounds self.now.turns.now worker.old.held worker.old.pass.seat worker.old.grip }
+        ensures { IsInRounds self.now.turns.now worker.new.held worker.new.pass.seat worker.new.grip }
     {
-        if let Some(e) = next_try(self.board, &mut worker.finds, leader) {
-            return self.turn_of(worker, leader, e);
+        self.end_row(worker);
+        match worker.finds.next() {
+            Some(e) => self.turn_of(worker, leader, e),
+            None => self.turn_marked(worker, leader),
         }
-        match leader.begin(self.board) {
-            Some(scope) => {
+    }
+
+    /// Behind a row of tries all that is held is given back, and the Runs that were found are for whoever comes first.
+    fn end_row(&self, worker: &mut Worker<D, O>)
+        requires crew { IsCrew self.now.turns.now }
+        requires free { IsInRounds self.now.turns.now worker.old.held worker.old.pass.seat worker.old.grip }
+        ensures { IsInRounds self.now.turns.now worker.new.held worker.new.pass.seat worker.new.grip }
+    {
+        if worker.row < ROW || self.board.is_alone() {
+            return;
+        }
+        self.give_back(worker);
+        self.board.post_runs(&mut worker.finds);
+    }
+
+    /// A round in which the worker has no event to try that takes no time: where an event left a mark, it looks what that is for.
+    fn turn_marked(&self, worker: &mut Worker<D, O>, leader: &mut Leader<'a>) -> Next
+        requires crew { IsCrew self.now.turns.now }
+        requires free { IsInRounds self.now.turns.now worker.old.held worker.old.pass.seat worker.old.grip }
+        ensures { IsInRounds self.now.turns.now worker.new.held worker.new.pass.seat worker.new.grip }
+    {
+        let Some(mark) = worker.finds.next_mark() else {
+            return self.turn_long(worker, leader);
+        };
+        if !self.enter_hub(worker) {
+            return self.turn_long(worker, leader);
+        }
+        self.look_at(worker, mark);
+        Next::Again
+    }
+
+    /// A round in which the worker holds nothing to begin with, and has nothing left to try that takes no time: it lets others look, and
+    /// tries what may take long.
+    fn turn_long(&self, worker: &mut Worker<D, O>, leader: &mut Leader<'a>) -> Next
+        requires crew { IsCrew self.now.turns.now }
+        requires free { IsInRounds self.now.turns.now worker.old.held worker.old.pass.seat worker.old.grip }
+        ensures { IsInRounds self.now.turns.now worker.new.held worker.new.pass.seat worker.new.grip }
+    {
+        self.give_back(worker);
+        self.board.post_runs(&mut worker.finds);
+        self.leave_hub(worker);
+        if worker.finds.has_next() {
+            return Next::Again;
+        }
+        leader.give_up();
+        match next_long(self.board, &mut worker.finds) {
+            Some(e) => {
+                worker.finds.keep_later();
+                self.turn_of(worker, leader, e)
+            }
+            None => self.turn_idle(worker, leader),
+        }
+    }
+
+    /// A round in which the worker holds nothing to begin with, and has nothing to try: it looks, syncs a log, or rests.
+    fn turn_idle(&self, worker: &mut Worker<D, O>, leader: &mut Leader<'a>) -> Next
+        requires crew { IsCrew self.now.turns.now }
+        requires free { IsInRounds self.now.turns.now worker.old.held worker.old.pass.seat worker.old.grip }
+        ensures { IsInRounds self.now.turns.now worker.new.held worker.new.pass.seat worker.new.grip }
+    {
+        leader.is_idle(self.board);
+        match leader.step(self.board) {
+            Some(Step::Look(scope)) => {
                 let seen = self.look(worker, scope);
                 after_look(leader, seen)
             }
+            Some(Step::Sync) => match self.board.due_sync() {
+                Some(e) => self.turn_of(worker, leader, e),
+                None => Next::Again,
+            },
             None => Next::Rest,
         }
     }
 
-    /// A round in which the worker tries this event. Where it is to be tried again, it is left to try; where there is no memory for
-    /// that, a look finds it.
+    /// Whether the worker is at the hub: it is where no other one is.
+    fn enter_hub(&self, worker: &mut Worker<D, O>) -> bool
+        ensures same { (worker.new.pass ≡ worker.old.pass) × ((worker.new.grip ≡ worker.old.grip) × (worker.new.held ≡ worker.old.held)) }
+    {
+        worker.hub = worker.hub || self.board.enter_hub();
+        worker.hub
+    }
+
+    /// The worker, which has nothing to try there, is at the hub no more; but if something was left there, it takes that over.
+    fn leave_hub(&self, worker: &mut Worker<D, O>)
+        ensures same { (worker.new.pass ≡ worker.old.pass) × ((worker.new.grip ≡ worker.old.grip) × (worker.new.held ≡ worker.old.held)) }
+    {
+        if !worker.hub || self.board.is_alone() {
+            return;
+        }
+        self.board.take_over_hub(&mut worker.finds);
+        if worker.finds.has_next() {
+            return;
+        }
+        worker.hub = false;
+        self.board.leave_hub();
+        if self.board.has_hub_event() && self.enter_hub(worker) {
+            self.board.take_over_hub(&mut worker.finds);
+        }
+    }
+
+    /// An event is left to the worker that is at the hub. First all that is held is given back, so that that one finds it free. The hub is
+    /// tried once more: who was there may have looked for what was left there before.
+    fn leave_at_hub(&self, worker: &mut Worker<D, O>, e: Event)
+        requires crew { IsCrew self.now.turns.now }
+        requires free { IsInRounds self.now.turns.now worker.old.held worker.old.pass.seat worker.old.grip }
+        ensures { IsInRounds self.now.turns.now worker.new.held worker.new.pass.seat worker.new.grip }
+    {
+        self.give_back(worker);
+        if !self.board.leave_at_hub(e) {
+            worker.finds.put_off(e);
+            return;
+        }
+        if self.enter_hub(worker) {
+            self.board.take_over_hub(&mut worker.finds);
+        }
+    }
+
+    /// A round in which the worker tries this event. Where it lacked a part and could not be left to who has it, it is put off; where
+    /// there is no memory for that, a look finds it.
     fn turn_of(&self, worker: &mut Worker<D, O>, leader: &mut Leader<'a>, e: Event) -> Next
         requires crew { IsCrew self.now.turns.now }
-        requires free { IsBetweenRounds self.now.turns.now worker.old.pass.seat worker.old.grip }
-        ensures { IsBetweenRounds self.now.turns.now worker.new.pass.seat worker.new.grip }
+        requires free { IsInRounds self.now.turns.now worker.old.held worker.old.pass.seat worker.old.grip }
+        ensures { IsInRounds self.now.turns.now worker.new.held worker.new.pass.seat worker.new.grip }
+    {
+        if takes_long(e) {
+            leader.give_up();
+        }
+        leader.is_busy(self.board);
+        if needs_hub(e) && !self.enter_hub(worker) {
+            self.leave_at_hub(worker, e);
+            return Next::Again;
+        }
+        self.turn_at(worker, leader, e)
+    }
+
+    /// A round in which the worker, which is at the hub where the event needs that, tries this event.
+    fn turn_at(&self, worker: &mut Worker<D, O>, leader: &mut Leader<'a>, e: Event) -> Next
+        requires crew { IsCrew self.now.turns.now }
+        requires free { IsInRounds self.now.turns.now worker.old.held worker.old.pass.seat worker.old.grip }
+        ensures { IsInRounds self.now.turns.now worker.new.held worker.new.pass.seat worker.new.grip }
     {
         let round = self.try_event(worker, e);
+        self.hear(worker, leader, e, round);
+        after_try(round)
+    }
+
+    /// What comes of a try for what the worker has left to try, and for its next look.
+    fn hear(&self, worker: &mut Worker<D, O>, leader: &mut Leader<'a>, e: Event, round: Round)
+        ensures same { (worker.new.pass ≡ worker.old.pass) × ((worker.new.grip ≡ worker.old.grip) × (worker.new.held ≡ worker.old.held)) }
+    {
+        worker.row = worker.row.saturating_add(1);
+        if worker.hub && !self.board.is_alone() {
+            self.board.take_over_hub(&mut worker.finds);
+        }
         if let Round::Looked(Acted::Done { number: _ }) = round {
             leader.did(e);
         }
         if round == Round::Lacking {
-            let _kept = worker.finds.put(e);
+            worker.finds.put_off(e);
         }
-        after_try(round)
     }
 
     /// The rounds of a worker, until it ends or another one has. Who ends has seen that no event is allowed on all parts together,
@@ -148,21 +305,24 @@ impl<'a, D: LogDev + Drop, O: Sink + Drop, G: Gate> Crew<'a, D, O, G> {
         requires free { IsBetweenRounds self.now.turns.now worker.old.pass.seat worker.old.grip }
         ensures { IsBetweenRounds self.now.turns.now worker.new.pass.seat worker.new.grip }
     {
+        if self.board.is_alone() {
+            worker.finds.keep_runs();
+        }
         let mut leader = Leader::new();
-        let mut rests = 0;
         for _ in rt.forever() {
             if self.board.has_ended() {
                 break;
             }
             match self.turn(worker, &mut leader) {
-                Next::Again => rests = 0,
+                Next::Again => {}
                 Next::Rest => {
-                    self.board.rest(rt, rests);
-                    rests = rests.saturating_add(1);
+                    worker.finds.keep_later();
+                    self.board.rest(rt, leader.naps());
                 }
                 Next::End => break,
             }
         }
+        self.give_back(worker);
         self.board.end();
     }
 }
@@ -203,7 +363,12 @@ pub fn work_together<
     requires free { All (λ worker. IsBetweenRounds turns.now worker.pass.seat worker.grip) workers.old }
     ensures { All (λ worker. IsBetweenRounds turns.now worker.pass.seat worker.grip) workers.new }
 {
-    let board = Board::new(hiring.alloc, turns.part_count(), turns.tables().work.logs);
+    let board = Board::new(
+        hiring.alloc,
+        turns.part_count(),
+        turns.tables().work.logs,
+        workers.len(),
+    );
     let job = Rounds {
         alloc: hiring.alloc,
         gate: hiring.gate,
