@@ -1,10 +1,14 @@
 -- What of a program's tree its flat code says.
-use Rattle.std.specs.Prelude.{◌≡◌, ℕ, ◌+◌, Option, Some, None, List, [], ◌∷◌, ◌++◌, map, ⊤}
+use Rattle.std.specs.Prelude.{◌≡◌, ℕ, ◌+◌, Option, Some, List, [], ◌∷◌, ◌++◌, map, ⊤}
 use Rattle.std.specs.List.{slice_get}
-use Rattle.aml_tree.specs.Tree.{Expr, Number, Variable, Field, Own, Binary, Code, End, Let, Call, Set, SetField, If, IfElse, While, Fail, Return, Onto, CheckedMethod, expression_tree}
+use Rattle.aml_tree.specs.declared.trees.Link.{Link}
+use Rattle.aml_tree.specs.declared.trees.Operator.{Operator}
+use Rattle.aml_tree.specs.Tree.{Expr, Number, Variable, Field, Own, Group, Negative, Binary, Code, End, Let, Call, Set, SetField, If, IfElse, While, Fail, Return, Onto, CheckedMethod, chain_tree}
 use Rattle.aml_flat.specs.declared.operations.BlockPlace.{BlockPlace}
 use Rattle.aml_flat.specs.declared.operations.Operand.{Operand}
 use Rattle.aml_flat.specs.declared.operations.Operand.TheVariants as operand
+use Rattle.aml_flat.specs.declared.operations.Part.{Part}
+use Rattle.aml_flat.specs.declared.operations.Part.TheVariants as part
 use Rattle.aml_flat.specs.declared.operations.FlatExpression.{FlatExpression}
 use Rattle.aml_flat.specs.declared.operations.FlatExpression.TheVariants as flat
 use Rattle.aml_flat.specs.declared.operations.Operation.{Operation}
@@ -18,10 +22,40 @@ operand_tree (operand.Variable place) = Variable place
 operand_tree (operand.Field k line) = Field k line
 operand_tree operand.Own = Own
 
+-- left sides, with their operators, each of which waits for its right side, the innermost first
+abbrev pub Waiting : Type 0
+Waiting = List (Operator × Expr ℕ)
+
+-- the value so far is the right side for which the innermost waits, and what comes of it the right side for the next one
+abbrev pub ended : Expr ℕ → Waiting → Expr ℕ
+ended x [] = x
+ended x (w ∷ ws) = ended (Binary w.0 w.1 x) ws
+
+-- What parts make of the value so far. A right side that is still open where they end is whole there, and a `Close` where none is
+-- open says nothing.
+abbrev pub row_tree : Expr ℕ → Waiting → List Part → Expr ℕ
+row_tree x ws [] = ended x ws
+row_tree x ws (part.Join o a ∷ ps) = row_tree (Binary o x (operand_tree a)) ws ps
+row_tree x ws (part.Open o a ∷ ps) = row_tree (operand_tree a) ((o, x) ∷ ws) ps
+row_tree x [] (part.Close ∷ ps) = row_tree x [] ps
+row_tree x (w ∷ ws) (part.Close ∷ ps) = row_tree (Binary w.0 w.1 x) ws ps
+row_tree x ws (part.Negate ∷ ps) = row_tree (Negative x) ws ps
+row_tree x ws (part.Group ∷ ps) = row_tree (Group x) ws ps
+
 abbrev pub flat_tree : FlatExpression → Expr ℕ
 flat_tree (flat.One o) = operand_tree o
 flat_tree (flat.Two o a b) = Binary o (operand_tree a) (operand_tree b)
-flat_tree (flat.Tree e) = expression_tree e
+flat_tree (flat.Row first parts) = row_tree (operand_tree first) [] parts.items
+
+-- the operand with which an expression begins
+abbrev pub leftmost : Expr ℕ → Expr ℕ
+leftmost (Number n) = Number n
+leftmost (Variable place) = Variable place
+leftmost (Field k line) = Field k line
+leftmost Own = Own
+leftmost (Group e) = leftmost e
+leftmost (Negative e) = leftmost e
+leftmost (Binary o a b) = leftmost a
 
 -- ---- blocks
 
@@ -70,6 +104,20 @@ abbrev pub AllLie : List Operation → List BlockPlace → List CheckedMethod �
 AllLie ops [] [] = ⊤
 AllLie ops (q ∷ qs) (m ∷ ms) = LiesAt ops q m.body × AllLie ops qs ms
 AllLie ops _ _ = ⊥
+
+-- ---- while parts are made
+
+-- the later parts are the earlier ones and further ones, which make this of a value so far, whatever waits and whatever follows
+abbrev pub Makes : List Part → List Part → Expr ℕ → Expr ℕ → Type 0
+Makes before after x y = (more : List Part) × (after ≡ before ++ more) × ((ws : Waiting) (rest : List Part) → row_tree x ws (more ++ rest) ≡ row_tree y ws rest)
+
+-- they make an expression of the operand with which it begins
+abbrev pub MakesWhole : List Part → List Part → Expr ℕ → Type 0
+MakesWhole before after e = Makes before after (leftmost e) e
+
+-- they join the operands of a chain to whatever stands before them
+abbrev pub MakesChain : List Part → List Part → List (Link (Expr ℕ)) → Type 0
+MakesChain before after links = (x : Expr ℕ) → Makes before after x (chain_tree x links)
 
 -- ---- while operations are made
 

@@ -1,6 +1,6 @@
 //! The types of flat code.
 
-use aml_tree::{Expression, Operator};
+use aml_tree::Operator;
 
 /// An operand that is read in place.
 #[derive(Clone, Copy)]
@@ -15,12 +15,28 @@ pub enum Operand {
     Own,
 }
 
-/// An expression: an operand, two that an operator joins, or else a tree.
+/// What an expression does next with the value that it has so far.
+#[derive(Clone, Copy)]
+pub enum Part {
+    /// The operator joins the operand to the value.
+    Join(Operator, Operand),
+    /// The value is the left side of the operator. The right side begins with the operand, and ends with its `Close`.
+    Open(Operator, Operand),
+    /// The right side that was opened last is whole.
+    Close,
+    /// The value is made negative.
+    Negate,
+    /// The value stood in parentheses.
+    Group,
+}
+
+/// An expression: an operand, two that an operator joins, or else an operand and the parts that follow it, in the order in which
+/// they are done.
 #[derive(Drop)]
 pub enum FlatExpression {
     One(Operand),
     Two(Operator, Operand, Operand),
-    Tree(Expression<u8>),
+    Row { first: Operand, parts: Vec<Part> },
 }
 
 /// Where a block lies: the position of its first operation, and how many statements it has.

@@ -100,7 +100,7 @@ IfGoes (Err code) P = ⊤
 
 -- falls with each statement that is counted, and where an inner block is left
 abbrev pub left_to_do : ℕ → ℕ → ℕ
-left_to_do n levels = (MOST_STATEMENTS - n) * 40 + levels
+left_to_do n levels = (MOST_STATEMENTS - n) * (MOST_LEVELS + 1) + levels
 
 -- ---- where a method stands, in flat code
 

@@ -1,3 +1,3 @@
-pub mod ChainValues
 pub mod Declared
+pub mod RowValues
 mod TwoValues

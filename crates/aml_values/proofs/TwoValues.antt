@@ -1,5 +1,5 @@
 -- An operator with two operands that do not fail.
-use Rattle.std.proofs.Common.{◌≡◌, ℕ, ℤ, pos, Bool, true, false, if◌then◌else◌, ◌||◌, Option, Some, None, Result, Ok, Err, List, refl, sym, ap, ◌∙◌}
+use Rattle.std.proofs.Common.{◌≡◌, ℕ, ℤ, pos, Bool, true, false, if◌then◌else◌, ◌||◌, Some, None, Result, Ok, List, refl, sym, ap, ◌∙◌}
 use Rattle.snap_base.specs.declared.transactions.State.{State}
 use Rattle.aml_tree.specs.declared.trees.Operator.{Operator}
 use Rattle.aml_tree.specs.declared.trees.Operator.TheVariants as operator
@@ -15,7 +15,7 @@ and_by true c = refl
 and_by false c = refl
 
 -- what the left side decides alone is what the operator makes of both
-decided_joined : (o : Operator) (x y : ℤ) → unless_decided (decided o x) (joined o x y) ≡ joined o x y
+pub decided_joined : (o : Operator) (x y : ℤ) → unless_decided (decided o x) (joined o x y) ≡ joined o x y
 decided_joined operator.Or x y = or_by (is_nonzero x) (is_nonzero y)
 decided_joined operator.And x y = and_by (is_nonzero x) (is_nonzero y)
 decided_joined operator.Equal x y = refl

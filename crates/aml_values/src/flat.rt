@@ -1,14 +1,16 @@
 //! What flat expressions give.
 
-ghost use Rattle.std.specs.Prelude.{◌≡◌, ◌<◌, ◌^◌, length, Ok};
+ghost use Rattle.std.specs.Prelude.{◌≡◌, ◌<◌, ◌^◌, [], length, Ok};
 ghost use Rattle.aml_tree.specs.Tree.{Binary};
-ghost use Rattle.aml_flat.specs.Flat.{flat_tree, operand_tree};
+ghost use Rattle.aml_flat.specs.Flat.{flat_tree, operand_tree, row_tree};
 ghost use Rattle.aml_check.specs.Closed.{IsClosedExpression};
 ghost use Rattle.aml_check.specs.Meaning.{value_of};
+ghost use Rattle.aml_values.specs.Rows.{AreClosed};
 
 use crate::codes::Code;
-use crate::values::{joined, tree_value};
-use aml_flat::{FlatExpression, Operand};
+use crate::rows::along;
+use crate::values::joined;
+use aml_flat::{FlatExpression, Operand, Part};
 use aml_tree::Operator;
 use snap_base::State;
 
@@ -17,7 +19,7 @@ use snap_base::State;
 
 /// What an operand gives.
 #[inline(always)]
-fn operand(own: usize, variables: &[i64], state: &State, o: Operand) -> i64
+pub(crate) fn operand(own: usize, variables: &[i64], state: &State, o: Operand) -> i64
     requires small { own < 2 ^ 63 }
     requires closed { IsClosedExpression (length variables.now) (operand_tree o) }
     ensures { Ok result ≡ value_of own variables.now state.now (operand_tree o) }
@@ -50,6 +52,36 @@ fn two(
     joined(operator, first, second)
 }
 
+/// What an operand and the parts that follow it give.
+fn row(
+    own: usize,
+    variables: &[i64],
+    state: &State,
+    first: Operand,
+    parts: &[Part],
+) -> Result<i64, Code>
+    requires small { own < 2 ^ 63 }
+    requires closed { IsClosedExpression (length variables.now) (row_tree (operand_tree first) [] parts.now) }
+    ensures { result ≡ value_of own variables.now state.now (row_tree (operand_tree first) [] parts.now) }
+{
+    closed_parts(variables, first, parts);
+    let mut so_far = operand(own, variables, state, first);
+    let mut at = 0;
+    while at < parts.len() {
+        let (value, behind) = along(own, variables, state, so_far, parts, at)?;
+        so_far = value;
+        at = behind;
+    }
+    Ok(so_far)
+}
+
+/// The operands of a closed row are closed.
+fn closed_parts(_variables: &[i64], _first: Operand, _parts: &[Part])
+    requires { IsClosedExpression (length _variables.now) (row_tree (operand_tree _first) [] _parts.now) }
+    ensures first { IsClosedExpression (length _variables.now) (operand_tree _first) }
+    ensures parts { AreClosed (length _variables.now) _parts.now }
+{}
+
 /// What an expression gives, or the code of a failure: a result outside signed 64 bits, or a divisor 0. Operands are read in
 /// place; it is inlined where a statement runs.
 #[inline(always)]
@@ -63,6 +95,6 @@ pub fn value(own: usize, variables: &[i64], state: &State, e: &FlatExpression) -
         FlatExpression::Two(operator, left, right) => {
             two(own, variables, state, *operator, *left, *right)
         }
-        FlatExpression::Tree(inner) => tree_value(own, variables, state, inner),
+        FlatExpression::Row { first, parts } => row(own, variables, state, *first, parts),
     }
 }

@@ -5,6 +5,7 @@
 
 mod codes;
 mod flat;
+mod rows;
 mod uses;
 mod values;
 

@@ -6,6 +6,7 @@ use denote.Struct.Declared.{shape}
 use Rattle.std.proofs.Crossing.{crosses}
 use Rattle.aml_flat.proofs.operations.BlockPlace.TheSendSync as place
 use Rattle.aml_flat.proofs.operations.Operand.TheSendSync as operand
+use Rattle.aml_flat.proofs.operations.Part.TheSendSync as part
 use Rattle.snap_hand.proofs.aml_tokens.tokens.Word.TheSendSync as word
 use Rattle.snap_hand.proofs.aml_tree.trees.Block.TheSendSync as block
 use Rattle.snap_hand.proofs.aml_tree.trees.Expression.TheLaws.TheKnot as expression
@@ -35,10 +36,10 @@ program_field : IsSync (Program.the_field u8 u16).row
 program_field = search (method, crosses, sendable) depth 60 fits 20000
 
 flat_expression : IsSync FlatExpression.the_row
-flat_expression = search (operand.the_field_sync, expression.crosses, crosses, sendable) depth 60 fits 20000
+flat_expression = search (operand.the_field_sync, part.the_field_sync, crosses, sendable) depth 60 fits 20000
 
 flat_expression_field : IsSync FlatExpression.the_field.row
-flat_expression_field = search (operand.the_field_sync, expression.crosses, crosses, sendable) depth 60 fits 20000
+flat_expression_field = search (operand.the_field_sync, part.the_field_sync, crosses, sendable) depth 60 fits 20000
 
 operation : IsSync Operation.the_row
 operation = search (flat_expression, flat_expression_field, place.the_field_sync, crosses, sendable) depth 60 fits 20000

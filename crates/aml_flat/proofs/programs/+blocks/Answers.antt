@@ -1,9 +1,9 @@
-use Rattle.std.proofs.Common.{◌≡◌, ℕ, ◌+◌, ◌<◌, ◌≤◌, length, take, get_or, map, [], ◌∷◌, sym, ap, ◌∙◌, subst, arith}
+use Rattle.std.proofs.Common.{◌≡◌, ℕ, ◌<◌, ◌≤◌, length, get_or, map, sym, ◌∙◌, subst}
 use Rattle.std.proofs.lemmas.List.{take_all}
-use Rattle.aml_tree.specs.Tree.{Code, Onto, expression_tree, block_tree, statement_tree, statements_onto, End}
+use Rattle.aml_tree.specs.Tree.{Onto, expression_tree, block_tree, statement_tree}
 use Rattle.aml_tree.specs.TreeRules.{tree_of_if, tree_of_if_else, tree_of_while}
 use Rattle.aml_flat.specs.declared.operations.Operation.TheVariants as op
-use Rattle.aml_flat.specs.Flat.{Extends, SaysStatement, SayStatements}
+use Rattle.aml_flat.specs.Flat.{SaysStatement, SayStatements}
 use Rattle.aml_flat.proofs.Laying.{says_if, says_if_else, says_while, at_extended, counted_statements, extends_on, next_says, block_lies}
 use Rattle.aml_flat.proofs.programs.+blocks.Goals as goal
 

@@ -3,7 +3,7 @@ use Rattle.std.proofs.lemmas.Int.{to_z-of_z}
 use Rattle.std.proofs.lemmas.List.{length-append}
 use Rattle.aml_flat.specs.Flat.{flat_tree}
 use Rattle.aml_check.specs.Closed.{IsClosedExpression}
-use Rattle.aml_values.proofs.ChainValues.{view_at}
+use Rattle.aml_values.proofs.RowValues.{view_at}
 use Rattle.aml_resume.proofs.Passing.{values_next}
 use Rattle.aml_resume.proofs.arguments.pass.Goals as goal
 
