@@ -17,7 +17,20 @@ const YIELDS: u64 = 64;
 /// How much longer each of its sleeps is than the one before, and how many times that the longest is.
 const NAP_MICROS: u64 = 20;
 
-const LONGEST_NAP: u64 = 10;
+const LONGEST_NAP: u64 = 50;
+
+/// How often a worker that has slept yields, to see whether another one goes on: some ten microseconds, which is much longer than an
+/// event takes, and shorter than a slice that is worth another worker.
+const WATCHES: u64 = 16;
+
+/// While a slice takes, others try so many events, or the slice is short: some of a microsecond each. To send a slice to another worker and
+/// back costs as much as some of them.
+const SHORT: u64 = 16;
+
+/// Behind a slice that took long so many Runs are for whoever comes first, and a short one counts for some of them.
+const SPREAD: u64 = 256;
+
+const SHORT_COUNTS: u64 = 8;
 
 /// Room for so many Runs.
 const ROOM_OF_RUNS: usize = 1_024;
@@ -45,10 +58,19 @@ pub struct Board {
     hub: AtomicU64,
     /// By the number of a part, what lacked it while a worker had it.
     lacking: Vec<Shelf>,
+    /// How many events were left there, or are about to be, and how many of these are there no more, or could not be left.
+    left: AtomicU64,
+    gone: AtomicU64,
     /// By the number of a log, how many of its records wait for a Sync.
     waiting: Vec<AtomicU64>,
     /// By the number of a part, 1 where an event touched it since a look had it.
     touched: Vec<AtomicU64>,
+    /// How many events were tried, but for those that were tried at the same moment.
+    pace: AtomicU64,
+    /// For how many slices more Runs are for whoever comes first: 0 while slices are short.
+    spread: AtomicU64,
+    /// 1 while who is at the hub, or was a moment ago, is in a slice that it kept.
+    inside: AtomicU64,
     /// 1 while a worker has the lead.
     looking: AtomicU64,
     /// How many have something to try.
@@ -114,8 +136,13 @@ impl Board {
             hub_events: Shelf::new(alloc, ROOM_OF_RUNS),
             hub: AtomicU64::new(0),
             lacking: shelves(alloc, parts, first_cell(logs)),
+            left: AtomicU64::new(0),
+            gone: AtomicU64::new(0),
             waiting: words(alloc, logs as usize, 0),
             touched: words(alloc, parts, 1),
+            pace: AtomicU64::new(0),
+            spread: AtomicU64::new(0),
+            inside: AtomicU64::new(0),
             looking: AtomicU64::new(0),
             working: AtomicU64::new(0),
             resting: AtomicU64::new(0),
@@ -127,6 +154,60 @@ impl Board {
     /// Whether there is one worker alone.
     pub fn is_alone(&self) -> bool {
         self.alone
+    }
+
+    /// How many events were tried so far, but for those that were tried at the same moment.
+    pub fn pace(&self) -> u64 {
+        self.pace.load(Ordering::SeqCst)
+    }
+
+    /// One event more was tried.
+    pub fn go_on(&self) {
+        let pace = self.pace.load(Ordering::Relaxed);
+        self.pace.store(pace.wrapping_add(1), Ordering::Relaxed);
+    }
+
+    /// Whether Runs are for whoever comes first, since slices take long. Else who is at the hub keeps what it finds: to send a short slice
+    /// to another worker takes longer than the slice.
+    pub fn is_spread(&self) -> bool {
+        self.spread.load(Ordering::SeqCst) != 0
+    }
+
+    /// Slices take long.
+    fn begin_spread(&self) {
+        self.spread.store(SPREAD, Ordering::SeqCst);
+    }
+
+    /// A slice that was kept begins.
+    pub fn enter_slice(&self) {
+        self.inside.store(1, Ordering::Relaxed);
+    }
+
+    /// It is over.
+    pub fn leave_slice(&self) {
+        self.inside.store(0, Ordering::Relaxed);
+    }
+
+    /// A slice is over that was begun when so many events had been tried, and when a worker was at the hub or not. Where others tried many
+    /// meanwhile it took long, and where one was at the hub all the while and they tried few it was short.
+    pub fn weigh(&self, begun: u64, busy: bool) {
+        let spread = self.spread.load(Ordering::SeqCst);
+        if spread == 0 {
+            return;
+        }
+        if self.pace().wrapping_sub(begun) >= SHORT {
+            self.begin_spread();
+            return;
+        }
+        let short = busy && self.is_busy();
+        let counts = if short { SHORT_COUNTS } else { 1 };
+        self.spread
+            .store(spread.saturating_sub(counts), Ordering::SeqCst);
+    }
+
+    /// Whether a worker is at the hub.
+    pub fn is_busy(&self) -> bool {
+        self.hub.load(Ordering::SeqCst) != 0
     }
 
     /// The Runs that a worker found are for whoever comes first. Where there is no room for one, it stays with the worker.
@@ -227,14 +308,33 @@ impl Board {
     /// who found it. Who leaves an event tries to get the part once more behind that, and who gives a part back looks for what lacked
     /// it behind that. So one of the two sees the other.
     pub fn leave(&self, part: usize, e: Event) -> bool {
-        match self.lacking.get(part) {
+        self.left.fetch_add(1, Ordering::SeqCst);
+        let kept = match self.lacking.get(part) {
             Some(shelf) => shelf.put(e),
             None => false,
+        };
+        if !kept {
+            self.gone.fetch_add(1, Ordering::SeqCst);
         }
+        kept
+    }
+
+    /// Whether some event lacks a part, of those that were left before. Mostly none does, so no list need be looked at. Those that are gone
+    /// are counted first: one that is left and taken over meanwhile must not hide another one.
+    pub fn has_left(&self) -> bool {
+        let gone = self.gone.load(Ordering::SeqCst);
+        self.left.load(Ordering::SeqCst) != gone
     }
 
     /// What lacked this part is taken over.
     pub fn take_over(&self, part: usize, finds: &mut Finds) {
+        if self.lack_of(part) != 0 {
+            self.take_all_over(part, finds);
+        }
+    }
+
+    /// What lacks this part is taken over, which something does.
+    fn take_all_over(&self, part: usize, finds: &mut Finds) {
         for _take in 0..TAKES {
             if self.lack_of(part) == 0 {
                 return;
@@ -242,6 +342,8 @@ impl Board {
             if let Some(shelf) = self.lacking.get(part) {
                 shelf.take_all(&mut finds.heard);
             }
+            self.gone
+                .fetch_add(finds.heard.len() as u64, Ordering::SeqCst);
             finds.keep_heard();
         }
     }
@@ -255,7 +357,7 @@ impl Board {
 
     /// What lacked one of those parts for which there is a bit, from the lowest on, is taken over.
     pub fn take_over_those(&self, parts: &Footprint, those: u32, finds: &mut Finds) {
-        if self.alone {
+        if !self.has_left() {
             return;
         }
         let mut left = those;
@@ -269,7 +371,7 @@ impl Board {
 
     /// What lacked any part is taken over.
     pub fn take_over_each(&self, finds: &mut Finds) {
-        if self.alone {
+        if !self.has_left() {
             return;
         }
         for part in 0..self.lacking.len() {
@@ -357,6 +459,7 @@ impl Board {
     pub fn rest<R: Wait>(&self, rt: &R, rests: u64) {
         if rests < YIELDS {
             thread::yield_now();
+            self.watch();
             return;
         }
         let times = (rests - YIELDS).min(LONGEST_NAP - 1) + 1;
@@ -367,5 +470,25 @@ impl Board {
         }
         self.resting.fetch_sub(1, Ordering::SeqCst);
         self.woken.store(0, Ordering::SeqCst);
+        self.watch();
+    }
+
+    /// Sees whether a slice that was kept takes long: then Runs are for whoever comes first.
+    fn watch(&self) {
+        let pace = self.pace();
+        if self.is_spread() || !self.is_inside() {
+            return;
+        }
+        for _yield in 0..WATCHES {
+            thread::yield_now();
+        }
+        if self.pace() == pace && self.is_inside() {
+            self.begin_spread();
+        }
+    }
+
+    /// Whether a slice that was kept goes on.
+    fn is_inside(&self) -> bool {
+        self.inside.load(Ordering::SeqCst) != 0
     }
 }

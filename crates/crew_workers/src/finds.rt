@@ -16,7 +16,7 @@ pub struct Finds {
     queues: Vec<VecDeque<Event>>,
     /// For each kind a bit, from the lowest on: whether there are some of it.
     some: u64,
-    /// The bits of the kinds that are tried in their order: all but Runs and Syncs, and Runs where the worker is alone.
+    /// The bits of the kinds that are tried in their order: all but Syncs, and but Runs where these are for whoever comes first.
     soon: u64,
     /// What the event that was just done may have made allowed.
     pub(crate) news: Vec<Event>,
@@ -81,12 +81,17 @@ impl Finds {
         e
     }
 
-    /// Runs are tried in their order too: no other worker is there to take them.
-    pub fn keep_runs(&mut self) {
-        self.soon |= bit_of(place_of(Kind::Slice));
+    /// Whether Runs are tried in their order too: where they are not for whoever comes first.
+    pub fn keep_runs(&mut self, kept: bool) {
+        let slices = bit_of(place_of(Kind::Slice));
+        self.soon = if kept {
+            self.soon | slices
+        } else {
+            self.soon & !slices
+        };
     }
 
-    /// Whether there is something to try, but Syncs, the replies behind a Sync, and Runs, unless the worker is alone.
+    /// Whether there is something to try, but Syncs, the replies behind a Sync, and Runs that are not kept.
     pub fn has_next(&self) -> bool {
         let replies = bit_of(place_of(Kind::Reply));
         let some = self.some & self.soon;

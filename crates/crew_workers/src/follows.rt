@@ -19,6 +19,8 @@ pub(crate) struct AtHand<'a> {
     pub alloc: Global,
     pub tables: &'a Tables,
     pub hand: &'a Hand,
+    /// Whether slices take long.
+    pub long: bool,
 }
 
 /// Lists what the event, which was done with these parts at hand, may have made allowed. `Memory` leaves some of it. Each event is
@@ -73,7 +75,7 @@ impl Mark {
     /// An event whose parts tell what the mark is for.
     pub fn event(self) -> Event {
         match self {
-            Mark::Ring => Event::Submit(TxNo(0)),
+            Mark::Ring => Event::AbortBatch(Bid(0)),
             Mark::Book(l) => Event::Decide(Tid(l as u64)),
         }
     }
@@ -222,9 +224,21 @@ fn list_admitted(at: &AtHand, t: Tid, events: &mut Vec<Event>) -> Result<(), Mem
     Ok(())
 }
 
+/// How many batches are begun at a time: as many as may be live, where slices take long. Else one more than there are logs: while one is
+/// completed, the commits of those before it sync each log once. With more, ACTs would wait longer for batches at their actors, and need
+/// more Syncs.
+fn most_batches(at: &AtHand) -> u32 {
+    let most = at.tables.work.batches as u32;
+    if at.long {
+        most
+    } else {
+        most.min(at.tables.work.logs as u32 + 1)
+    }
+}
+
 fn has_place_for_batch(at: &AtHand) -> bool {
     match on_desk(at.hand) {
-        Some(desk) => desk.live() < at.tables.work.batches as u32,
+        Some(desk) => desk.live() < most_batches(at),
         None => true,
     }
 }
@@ -475,7 +489,7 @@ fn list_gone(at: &AtHand, k: Bid, events: &mut Vec<Event>) -> Result<(), Memory>
     let Some(desk) = on_desk(at.hand) else {
         return Ok(());
     };
-    if desk.live().wrapping_add(1) != at.tables.work.batches as u32 {
+    if desk.live() >= most_batches(at) {
         return Ok(());
     }
     let going = desk.going(at.alloc)?;

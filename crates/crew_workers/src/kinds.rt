@@ -105,6 +105,14 @@ pub(crate) fn takes_long(e: Event) -> bool {
     }
 }
 
+/// Whether the event is a slice.
+pub(crate) fn is_slice(e: Event) -> bool {
+    match e {
+        Event::Run(_, _) => true,
+        _ => false,
+    }
+}
+
 /// Whether the event needs the ring, the book, the post or the desk.
 pub(crate) fn needs_hub(e: Event) -> bool {
     match kind_of(e) {

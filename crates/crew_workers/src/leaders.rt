@@ -12,6 +12,9 @@ const RESTS_TO_LOOK: u64 = 4;
 /// How often it rests behind that before it looks at all parts.
 const RESTS_TO_TAKE: u64 = 32;
 
+/// How often it rests before it does so, where slices are short, behind the last event that another one tried.
+const RESTS_BEHIND: u64 = 3;
+
 /// How much a look takes, and what it lists.
 #[derive(Clone, Copy, Debug, PartialEq, Eq)]
 pub enum Scope {
@@ -65,6 +68,8 @@ pub(crate) struct Leader<'a> {
     rests: u64,
     /// How often it has rested since it did an event.
     naps: u64,
+    /// How many events had been tried when it last rested.
+    pace: u64,
 }
 
 impl<'a> Leader<'a> {
@@ -76,6 +81,7 @@ impl<'a> Leader<'a> {
             step: Step::Look(Scope::Narrow),
             rests: 0,
             naps: 0,
+            pace: 0,
         }
     }
 
@@ -110,6 +116,7 @@ impl<'a> Leader<'a> {
     /// What it does next, which has nothing to try: `None` where it rests. It goes on where no other worker has anything to try either;
     /// else it waits for a while before it takes parts from those that have, and it looks only where it can have the lead.
     pub fn step(&mut self, board: &'a Board) -> Option<Step> {
+        self.follow(board);
         if self.rests < patience(self.step) && board.has_work() {
             self.rests = self.rests.saturating_add(1);
             return None;
@@ -124,6 +131,17 @@ impl<'a> Leader<'a> {
             Some(_) => Some(self.step),
             None => None,
         }
+    }
+
+    /// While slices are short, it rests as long as others go on, and a few times more.
+    fn follow(&mut self, board: &Board) {
+        let pace = board.pace();
+        if pace != self.pace && !board.is_spread() {
+            self.rests = self
+                .rests
+                .min(patience(self.step).saturating_sub(RESTS_BEHIND));
+        }
+        self.pace = pace;
     }
 
     /// An event was done. What waits for a Sync comes next, and then a narrow look; but what an abort makes allowed lies all over.

@@ -137,6 +137,7 @@ impl<'a, D: LogDev + Drop, O: Sink + Drop, G: Gate> Crew<'a, D, O, G> {
             alloc: self.alloc,
             tables: self.turns.tables(),
             hand: grip.hand(),
+            long: self.board.is_spread(),
         };
         let mut listed = Vec::new(self.alloc);
         let all = list_hand(&at, scope, &mut listed).is_ok();

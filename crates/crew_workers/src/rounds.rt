@@ -55,8 +55,10 @@ impl<'a, D: LogDev + Drop, O: Sink + Drop, G: Gate> Crew<'a, D, O, G> {
         match self.tried(worker, &parts, e) {
             Round::Lacking => self.leave(worker, parts, e),
             round => {
-                let here = self.awaited(&worker.grip, &parts);
-                self.board.take_over_those(&parts, here, &mut worker.finds);
+                if self.board.has_left() {
+                    let here = self.awaited(&worker.grip, &parts);
+                    self.board.take_over_those(&parts, here, &mut worker.finds);
+                }
                 worker.held = parts;
                 round
             }
@@ -82,8 +84,10 @@ impl<'a, D: LogDev + Drop, O: Sink + Drop, G: Gate> Crew<'a, D, O, G> {
         } = worker;
         let were = self.awaited(grip, held);
         grip.keep_parts(self.turns, pass, held, parts);
-        self.board
-            .take_over_those(held, were & !self.awaited(grip, held), finds);
+        if self.board.has_left() {
+            self.board
+                .take_over_those(held, were & !self.awaited(grip, held), finds);
+        }
     }
 
     /// Gives back all that is held. What lacked a part of that is left to try.
@@ -240,6 +244,7 @@ impl<'a, D: LogDev + Drop, O: Sink + Drop, G: Gate> Crew<'a, D, O, G> {
                 alloc: self.alloc,
                 tables: self.turns.tables(),
                 hand: grip.hand(),
+                long: self.board.is_spread(),
             };
             let _all = list_follows(&at, e, &mut finds.news);
             if frees_place(&at, e) {
@@ -311,6 +316,7 @@ impl<'a, D: LogDev + Drop, O: Sink + Drop, G: Gate> Crew<'a, D, O, G> {
                 alloc: self.alloc,
                 tables,
                 hand: grip.hand(),
+                long: self.board.is_spread(),
             };
             finds.news.clear();
             let _all = mark.list(&at, &mut finds.news);

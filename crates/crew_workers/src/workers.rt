@@ -7,7 +7,7 @@ ghost use Rattle.turn_table.specs.Words.{HoldsNothing, IsOf, splits_of};
 use crate::boards::Board;
 use crate::crews::Hiring;
 use crate::finds::Finds;
-use crate::kinds::{needs_hub, takes_long};
+use crate::kinds::{is_slice, needs_hub, takes_long};
 use crate::leaders::{Leader, Next, Step};
 use crate::looking::Seen;
 use crate::rounds::Round;
@@ -131,6 +131,8 @@ impl<'a, D: LogDev + Drop, O: Sink + Drop, G: Gate> Crew<'a, D, O, G> {
         requires free { IsInRounds self.now.turns.now worker.old.held worker.old.pass.seat worker.old.grip }
         ensures { IsInRounds self.now.turns.now worker.new.held worker.new.pass.seat worker.new.grip }
     {
+        let kept = self.keeps_runs(worker);
+        worker.finds.keep_runs(kept);
         self.end_row(worker);
         match worker.finds.next() {
             Some(e) => self.turn_of(worker, leader, e),
@@ -138,13 +140,19 @@ impl<'a, D: LogDev + Drop, O: Sink + Drop, G: Gate> Crew<'a, D, O, G> {
         }
     }
 
-    /// Behind a row of tries all that is held is given back, and the Runs that were found are for whoever comes first.
+    /// Whether the worker keeps the Runs that it finds: where it is alone, or at the hub while slices are short.
+    fn keeps_runs(&self, worker: &Worker<D, O>) -> bool {
+        self.board.is_alone() || (worker.hub && !self.board.is_spread())
+    }
+
+    /// Behind a row of tries all that is held is given back, and the Runs that were found are for whoever comes first; but not where the
+    /// worker keeps these.
     fn end_row(&self, worker: &mut Worker<D, O>)
         requires crew { IsCrew self.now.turns.now }
         requires free { IsInRounds self.now.turns.now worker.old.held worker.old.pass.seat worker.old.grip }
         ensures { IsInRounds self.now.turns.now worker.new.held worker.new.pass.seat worker.new.grip }
     {
-        if worker.row < ROW || self.board.is_alone() {
+        if worker.row < ROW || self.keeps_runs(worker) {
             return;
         }
         self.give_back(worker);
@@ -264,11 +272,46 @@ impl<'a, D: LogDev + Drop, O: Sink + Drop, G: Gate> Crew<'a, D, O, G> {
             leader.give_up();
         }
         leader.is_busy(self.board);
+        if worker.hub && is_slice(e) && !self.board.is_alone() {
+            return self.turn_out(worker, leader, e);
+        }
         if needs_hub(e) && !self.enter_hub(worker) {
             self.leave_at_hub(worker, e);
             return Next::Again;
         }
         self.turn_at(worker, leader, e)
+    }
+
+    /// A round in which the worker, which is at the hub, tries a Run. While it is in the slice, another one may be at the hub, and finds free
+    /// what was held.
+    fn turn_out(&self, worker: &mut Worker<D, O>, leader: &mut Leader<'a>, e: Event) -> Next
+        requires crew { IsCrew self.now.turns.now }
+        requires free { IsInRounds self.now.turns.now worker.old.held worker.old.pass.seat worker.old.grip }
+        ensures { IsInRounds self.now.turns.now worker.new.held worker.new.pass.seat worker.new.grip }
+    {
+        self.give_back(worker);
+        if !self.step_out(worker) {
+            let _kept = worker.finds.put(e);
+            return Next::Again;
+        }
+        self.board.enter_slice();
+        let next = self.turn_at(worker, leader, e);
+        self.board.leave_slice();
+        self.enter_hub(worker);
+        next
+    }
+
+    /// Whether the worker, which was at the hub, is there no more: not where something was left there meanwhile, which it takes over.
+    fn step_out(&self, worker: &mut Worker<D, O>) -> bool
+        ensures same { (worker.new.pass ≡ worker.old.pass) × ((worker.new.grip ≡ worker.old.grip) × (worker.new.held ≡ worker.old.held)) }
+    {
+        worker.hub = false;
+        self.board.leave_hub();
+        if self.board.has_hub_event() && self.enter_hub(worker) {
+            self.board.take_over_hub(&mut worker.finds);
+            return false;
+        }
+        true
     }
 
     /// A round in which the worker, which is at the hub where the event needs that, tries this event.
@@ -277,7 +320,13 @@ impl<'a, D: LogDev + Drop, O: Sink + Drop, G: Gate> Crew<'a, D, O, G> {
         requires free { IsInRounds self.now.turns.now worker.old.held worker.old.pass.seat worker.old.grip }
         ensures { IsInRounds self.now.turns.now worker.new.held worker.new.pass.seat worker.new.grip }
     {
+        let begun = self.board.pace();
+        let busy = self.board.is_busy();
         let round = self.try_event(worker, e);
+        if is_slice(e) {
+            self.board.weigh(begun, busy);
+        }
+        self.board.go_on();
         self.hear(worker, leader, e, round);
         after_try(round)
     }
@@ -287,7 +336,7 @@ impl<'a, D: LogDev + Drop, O: Sink + Drop, G: Gate> Crew<'a, D, O, G> {
         ensures same { (worker.new.pass ≡ worker.old.pass) × ((worker.new.grip ≡ worker.old.grip) × (worker.new.held ≡ worker.old.held)) }
     {
         worker.row = worker.row.saturating_add(1);
-        if worker.hub && !self.board.is_alone() {
+        if worker.hub && self.board.has_hub_event() {
             self.board.take_over_hub(&mut worker.finds);
         }
         if let Round::Looked(Acted::Done { number: _ }) = round {
@@ -305,9 +354,6 @@ impl<'a, D: LogDev + Drop, O: Sink + Drop, G: Gate> Crew<'a, D, O, G> {
         requires free { IsBetweenRounds self.now.turns.now worker.old.pass.seat worker.old.grip }
         ensures { IsBetweenRounds self.now.turns.now worker.new.pass.seat worker.new.grip }
     {
-        if self.board.is_alone() {
-            worker.finds.keep_runs();
-        }
         let mut leader = Leader::new();
         for _ in rt.forever() {
             if self.board.has_ended() {
