@@ -1,6 +1,7 @@
 pub mod Again
 pub mod AllListed
 pub mod Cited
+pub mod Dooming
 pub mod Listing
 pub mod Offered
 pub mod Ordered
@@ -18,3 +19,4 @@ pub mod TouchedEvents
 pub mod TouchedListed
 pub mod TouchedParts
 pub mod TouchedVerdicts
+pub mod Waiting

@@ -1,13 +1,11 @@
 -- What is out of an event's reach is not changed by it.
-use Rattle.std.specs.Prelude.{◌≡◌, refl, ℕ, ◌==◌, false}
+use Rattle.std.specs.Prelude.{◌≡◌, refl, ℕ, ◌==◌, Bool, true, false}
 use Rattle.std.proofs.lemmas.Bool.{true≢false, and_right, or_from}
-use Rattle.protocol.specs.Fixed.{Fixed}
 use Rattle.protocol.specs.Parts.{Machine}
-use Rattle.protocol.specs.Events.{Event, Submit, Pass, Form, Admit, Arrive, Ask, End, Complete, Sync, Note, Commit, Settle, Abort, Rollback, DropSub, Prepare, Vouch, Decide, Seal, Finish}
-use Rattle.protocol.specs.Effects.{after}
+use Rattle.protocol.specs.Events.{Event, Form, Admit, Arrive, Ask, End, Settle, Rollback, DropSub, Prepare, Vouch, Decide, Seal, Finish}
 use Rattle.protocol_ready.specs.Touched
-use Rattle.protocol_ready.specs.Touched.{is_abort}
-use Rattle.protocol_ready.specs.Refusing.{reached_by, rolled_back_by, voted_by, bid_of_event, is_at, is_on_ring, spreads, is_on_log, is_on_batches, is_settle}
+use Rattle.protocol_ready.specs.Refusing.{reached_by, rolled_back_by, fated_by, moved_by, vouched_by, is_at, spreads, is_on_batches, is_settle}
+use Rattle.protocol_ready.proofs.Remaining.{both_apart}
 
 -- ---- by the actor
 
@@ -31,20 +29,6 @@ sub _ k a h = refl
 
 -- ---- by the batch
 
-pub subs : (e : Event) (k : ℕ) → is_at k (bid_of_event e) ≡ false → Touched.changes_subs e k ≡ false
-subs (Form j) k h = h
-subs _ k h = refl
-
-pub stage : (e : Event) (k : ℕ) → is_at k (bid_of_event e) ≡ false → Touched.changes_stage e k ≡ false
-stage (Form j) k h = h
-stage (Commit j) k h = h
-stage (Settle j) k h = h
-stage _ k h = refl
-
-pub noted : (e : Event) (k : ℕ) → is_on_batches e ≡ false → Touched.changes_noted e k ≡ false
-noted (Note j b) k h = absurd (true≢false h)
-noted _ k h = refl
-
 pub results : {C : Type 0} (e : Event) (s : Machine C) (k : ℕ) → is_on_batches e ≡ false → Touched.changes_results e s k ≡ false
 results (End t a) s k h = absurd (true≢false h)
 results _ s k h = refl
@@ -58,55 +42,43 @@ pub settled : (e : Event) → is_settle e ≡ false → Touched.changes_settled 
 settled (Settle j) h = absurd (true≢false h)
 settled _ h = refl
 
--- ---- by the log
-
-pub log : {C : Type 0} (w : Fixed C) (e : Event) (l : ℕ) → is_on_log e ≡ false → Touched.changes_log w e l ≡ false
-log w (Form k) l h = absurd (true≢false h)
-log w (Complete k a) l h = absurd (true≢false h)
-log w (Sync m) l h = absurd (true≢false h)
-log w (Commit k) l h = absurd (true≢false h)
-log w (Prepare t a) l h = absurd (true≢false h)
-log w (Decide t) l h = absurd (true≢false h)
-log w _ l h = refl
-
 -- ---- by the transaction
 
-pub acts : {C : Type 0} (e : Event) (s : Machine C) (t : ℕ) → spreads e ≡ false → is_at t (voted_by e) ≡ false → Touched.changes_act e s t ≡ false
-acts (Admit u) s t h g = or_from (u == t) false g refl
-acts (Arrive k a) s t h g = absurd (true≢false h)
-acts (Ask u a) s t h g = absurd (true≢false h)
-acts (End u a) s t h g = or_from (u == t) false g refl
-acts (Decide u) s t h g = or_from (u == t) false g refl
-acts (Seal u) s t h g = or_from (u == t) false g refl
-acts _ s t h g = refl
+abbrev pub is_admit : Event → Bool
+is_admit (Admit t) = true
+is_admit _ = false
 
-pub prepared : (e : Event) (t a : ℕ) → is_at t (voted_by e) ≡ false → Touched.changes_prepared e t a ≡ false
+pub acts : {C : Type 0} (e : Event) (s : Machine C) (t : ℕ) → is_admit e ≡ false → spreads e ≡ false → is_at t (fated_by e) ≡ false → Touched.changes_act e s t ≡ false
+acts (Admit u) s t f h g = absurd (true≢false f)
+acts (Arrive k a) s t f h g = absurd (true≢false h)
+acts (Ask u a) s t f h g = absurd (true≢false h)
+acts (End u a) s t f h g = or_from (u == t) false g refl
+acts (Decide u) s t f h g = or_from (u == t) false g refl
+acts (Seal u) s t f h g = or_from (u == t) false g refl
+acts _ s t f h g = refl
+
+pub prepared : (e : Event) (t a : ℕ) → is_at t (moved_by e) ≡ false → Touched.changes_prepared e t a ≡ false
 prepared (Prepare u b) t a h = and_right (b == a) (u == t) h
 prepared _ t a h = refl
 
-pub vouched : (e : Event) (t a : ℕ) → is_at t (voted_by e) ≡ false → Touched.changes_vouched e t a ≡ false
-vouched (Vouch u b) t a h = and_right (b == a) (u == t) h
-vouched _ t a h = refl
-
-pub finished : (e : Event) (t a : ℕ) → is_at t (voted_by e) ≡ false → Touched.changes_finished e t a ≡ false
-finished (Finish u b) t a h = and_right (b == a) (u == t) h
-finished _ t a h = refl
-
-pub votes : (e : Event) (t : ℕ) → is_at t (voted_by e) ≡ false → Touched.changes_votes e t ≡ false
+pub votes : (e : Event) (t : ℕ) → is_at t (vouched_by e) ≡ false → Touched.changes_votes e t ≡ false
 votes (Vouch u b) t h = h
 votes _ t h = refl
 
-pub left : (e : Event) (t : ℕ) → is_at t (voted_by e) ≡ false → Touched.changes_left e t ≡ false
+pub left : (e : Event) (t : ℕ) → is_at t (moved_by e) ≡ false → Touched.changes_left e t ≡ false
 left (Finish u b) t h = h
 left _ t h = refl
 
--- ---- the ring
+-- ---- the event itself is another one
 
-pub ring : {C : Type 0} (w : Fixed C) (e : Event) (s : Machine C) → is_abort e ≡ false → is_on_ring e ≡ false → (after w e s).ring ≡ s.ring
-unfolding after
-ring w (Submit n) s z h = absurd (true≢false h)
-ring w (Pass c) s z h = absurd (true≢false h)
-ring w (Form k) s z h = absurd (true≢false h)
-ring w (Admit t) s z h = absurd (true≢false h)
-ring w (Abort k) s z h = absurd (true≢false z)
-ring w _ s z h = refl
+pub prepares : (e : Event) (t a : ℕ) → (Prepare t a ≡ e → ⊥) → Touched.changes_prepared e t a ≡ false
+prepares (Prepare u b) t a n = both_apart (λ b u. Prepare u b) b a u t n
+prepares _ t a n = refl
+
+pub vouches : (e : Event) (t a : ℕ) → (Vouch t a ≡ e → ⊥) → Touched.changes_vouched e t a ≡ false
+vouches (Vouch u b) t a n = both_apart (λ b u. Vouch u b) b a u t n
+vouches _ t a n = refl
+
+pub finishes : (e : Event) (t a : ℕ) → (Finish t a ≡ e → ⊥) → Touched.changes_finished e t a ≡ false
+finishes (Finish u b) t a n = both_apart (λ b u. Finish u b) b a u t n
+finishes _ t a n = refl

@@ -2,7 +2,7 @@
 use Rattle.std.specs.Prelude.{◌≡◌, refl, ℕ, zero, suc, ◌%◌, ◌==◌, is_some, Bool, true, false, not, ◌&&◌, ◌||◌, if◌then◌else◌, Option, Some, None, List, [], ◌∷◌, ◌++◌, length, map, filter, slice_get}
 use Rattle.std.specs.List.{list_all}
 use Rattle.std.proofs.Common.{sym, ap, subst, ◌∙◌}
-use Rattle.std.proofs.lemmas.Bool.{eqb-true, or_parts, true≢false, or_from}
+use Rattle.std.proofs.lemmas.Bool.{eqb-true, and_parts, or_parts, true≢false, or_from}
 use Rattle.protocol.specs.Fixed.{Fixed}
 use Rattle.protocol.specs.Records.{LogRecord, is_info, is_complete, is_commit, is_prepare, is_act_commit}
 use Rattle.protocol.specs.Parts.{Who, OfBatch, OfAct, Status, Live, Doomed, Decided, Sealed, Act, Joined, Batch, ControlMessage, Log, Machine}
@@ -18,11 +18,13 @@ use Rattle.snap_base.specs.declared.verdicts.Verdict.{Verdict}
 use Rattle.protocol_laws.proofs.first.Lists.{some_held}
 use Rattle.protocol_laws.specs.OneWay.{EachBecame, ActWent, LogGrew, StatusWent, WentOn}
 use Rattle.protocol_ready.specs.Touched.{IsSound, is_abort, reads_changed, changes_note, changes_trim, changes_replied}
-use Rattle.protocol_ready.specs.Refusing.{taken_by, handed_on_by, left_by, done_by, voted_by, bid_of_event, reached_by, cut_by, rolled_back_by, is_at, is_on_ring, spreads, may_free, is_on_batches, is_settle, is_in_reach, is_reply}
+use Rattle.protocol_ready.specs.Refusing.{taken_by, handed_on_by, left_by, done_by, fated_by, moved_by, vouched_by, committed_by, cut_by, rolled_back_by, is_at, is_form, spreads, is_ask, is_on_batches, is_settle, is_in_reach, is_reply}
 use Rattle.protocol_ready.proofs.Cited.{Framed}
 use Rattle.protocol_ready.proofs.Reached as reach
 use Rattle.protocol_ready.proofs.TouchedEvents.{untouched}
 use Rattle.protocol_ready.proofs.Remaining.{both_apart, control_went, inbox_went, outbox_went, new_went, not_doomed_went, result_went}
+use Rattle.protocol_ready.proofs.Dooming.{trimmed_form, arrived_seal, asked_seal, arrived_finish, asked_finish, arrived_admit, decided_admit, sealed_admit, finished_admit}
+use Rattle.protocol_ready.proofs.Waiting.{Stays, never, submit_went, submitted_form, submitted_admit, pass_went, posted_sub, posted_drop, sync_went, settle_stage, trim_stage, note_stage, commit_stage, abort_stage, formed_note, formed_settle, formed_trim, noted_more, admitted_prepare, admitted_vouch, admitted_decide, admitted_seal, admitted_finish}
 use Rattle.protocol_ready.proofs.Standing.{entry_went, clear_went, turn_went, undone_went, lacking_went, ahead_went, all_done_went}
 use Rattle.protocol_ready.proofs.TouchedParts.{epoch_stays}
 use Rattle.protocol_ready.proofs.TouchedActs.{act_test, plain, vouch_bears}
@@ -69,21 +71,28 @@ live_batches [] (y ∷ ys) e f = absurd (cc e)
 live_batches (x ∷ xs) [] e f = absurd (cc e)
 live_batches (x ∷ xs) (y ∷ ys) e f = one_more (is_live_batch x) (is_live_batch y) x y (filter is_live_batch xs) (filter is_live_batch ys) (batch_as x y (cc e) (cc f)) (live_batches xs ys (cc e) (cc f))
 
-acts_counted : {C : Type 0} (w : Fixed C) (e : Event) (s : Machine C) → ((q : Content) → is_changed q e ≡ false → IsSame q s (after w e s)) → is_abort e ≡ false → is_on_ring e ≡ false → may_free e ≡ false → count is_live_act (after w e s).book.acts ≡ count is_live_act s.book.acts
-acts_counted w (Admit t) s same z h g = absurd (true≢false h)
-acts_counted w (Arrive k a) s same z h g = absurd (true≢false g)
-acts_counted w (Ask t a) s same z h g = absurd (true≢false g)
-acts_counted w (Decide t) s same z h g = absurd (true≢false g)
-acts_counted w (Seal t) s same z h g = absurd (true≢false g)
-acts_counted w (Finish t a) s same z h g = absurd (true≢false g)
-acts_counted w (Abort k) s same z h g = absurd (true≢false z)
-acts_counted w e s same z h g = live_acts s.book.acts (after w e s).book.acts (same FinishedMarks refl) (same Statuses refl)
+pub form_went : {C : Type 0} (w : Fixed C) (e : Event) (s : Machine C) (k : ℕ) → ((q : Content) → is_changed q e ≡ false → IsSame q s (after w e s)) → is_abort e ≡ false → IsAllowed w e s → (Form k ≡ e → ⊥) → Stays w e s (Form k)
+unfolding conditions after
+form_went w (Submit n) s k same z al apart h = submitted_form w n s k h
+form_went w (Pass d) s k same z al apart h = absurd (never _ (and_parts _ _ al.1.0).0 h.1.0)
+form_went w (Form j) s k same z al apart h = absurd (apart (ap Form (eqb-true k _ h.0 ∙ sym (eqb-true j _ al.0))))
+form_went w (Abort j) s k same z al apart h = absurd (true≢false z)
+form_went w (Trim j a) s k same z al apart h = trimmed_form w j a s k h
+form_went w e s k same z al apart h = rw (live_batches s.desk.batches (after w e s).desk.batches (same TrimmedMarks refl) (same AbortedMarks refl)) h
 
-batches_counted : {C : Type 0} (w : Fixed C) (e : Event) (s : Machine C) → ((q : Content) → is_changed q e ≡ false → IsSame q s (after w e s)) → is_abort e ≡ false → is_on_ring e ≡ false → may_free e ≡ false → count is_live_batch (after w e s).desk.batches ≡ count is_live_batch s.desk.batches
-batches_counted w (Form k) s same z h g = absurd (true≢false h)
-batches_counted w (Trim k a) s same z h g = absurd (true≢false g)
-batches_counted w (Abort k) s same z h g = absurd (true≢false z)
-batches_counted w e s same z h g = live_batches s.desk.batches (after w e s).desk.batches (same TrimmedMarks refl) (same AbortedMarks refl)
+pub admit_went : {C : Type 0} (w : Fixed C) (e : Event) (s : Machine C) (t : ℕ) → ((q : Content) → is_changed q e ≡ false → IsSame q s (after w e s)) → is_abort e ≡ false → IsAllowed w e s → (is_form e || is_ask e) ≡ false → (Admit t ≡ e → ⊥) → Stays w e s (Admit t)
+unfolding conditions after
+admit_went w (Submit n) s t same z al g apart h = submitted_admit w n s t h
+admit_went w (Pass d) s t same z al g apart h = absurd (never _ (and_parts _ _ al.1.0).1 h.1.0)
+admit_went w (Form j) s t same z al g apart h = absurd (true≢false g)
+admit_went w (Admit u) s t same z al g apart h = absurd (apart (ap Admit (eqb-true t _ h.0 ∙ sym (eqb-true u _ al.0))))
+admit_went w (Abort j) s t same z al g apart h = absurd (true≢false z)
+admit_went w (Arrive k a) s t same z al g apart h = arrived_admit w k a s t h
+admit_went w (Ask u a) s t same z al g apart h = absurd (true≢false g)
+admit_went w (Decide u) s t same z al g apart h = decided_admit w u s t h
+admit_went w (Seal u) s t same z al g apart h = sealed_admit w u s t h
+admit_went w (Finish u a) s t same z al g apart h = finished_admit w u a s t h
+admit_went w e s t same z al g apart h = rw (live_acts s.book.acts (after w e s).book.acts (same FinishedMarks refl) (same Statuses refl)) h
 
 -- ---- what goes one way
 
@@ -140,9 +149,6 @@ other_reply _ m n = refl
 -- ---- each kind
 
 -- what reads nothing that is changed
-abbrev pub Stays : {C : Type 0} → Fixed C → Event → Machine C → Event → Type 0
-Stays w e s f = IsAllowed w f s → IsAllowed w f (after w e s)
-
 unread : {C : Type 0} (w : Fixed C) (e : Event) (s : Machine C) (f : Event) → Framed w → IsSound w s → IsAllowed w e s → is_abort e ≡ false → reads_changed w e s f ≡ false → Stays w e s f
 unread w e s f framed ok al z h = subst AllTrue (sym (untouched w s framed e f ok al (or_from (is_abort e) (reads_changed w e s f) z h)))
 
@@ -157,17 +163,13 @@ keeps : {C : Type 0} (w : Fixed C) (e : Event) (s : Machine C) (f : Event) → F
     → ((n : ℕ) → is_some (verdict n s.book s.desk) ≡ true → is_some (verdict n (after w e s).book (after w e s).desk) ≡ true)
     → IsAllowed w e s → is_abort e ≡ false → is_in_reach e f ≡ false → (f ≡ e → ⊥) → Stays w e s f
 unfolding conditions
-keeps w e s (Submit n) framed ok went told al z h apart allowed = rw (reach.ring w e s z h) allowed
-keeps w e s (Pass c) framed ok went told al z h apart allowed = rw (reach.ring w e s z h) allowed
-keeps w e s (Form k) framed ok went told al z h apart allowed =
-    let o = or_parts (is_on_ring e) (may_free e) h in
-    rw (reach.ring w e s z o.0, batches_counted w e s (framed e s) z o.0 o.1) allowed
-keeps w e s (Admit t) framed ok went told al z h apart allowed =
-    let o = or_parts (is_on_ring e) (may_free e) h in
-    rw (reach.ring w e s z o.0, acts_counted w e s (framed e s) z o.0 o.1) allowed
+keeps w e s (Submit n) framed ok went told al z h apart allowed = submit_went w e s n z al apart allowed
+keeps w e s (Pass c) framed ok went told al z h apart allowed = pass_went w e s c z al h apart allowed
+keeps w e s (Form k) framed ok went told al z h apart allowed = form_went w e s k (framed e s) z al apart allowed
+keeps w e s (Admit t) framed ok went told al z h apart allowed = admit_went w e s t (framed e s) z al h apart allowed
+keeps w (Form j) s (Arrive k a) framed ok went told al z h apart allowed = posted_sub w j s k a allowed
 keeps w e s (Arrive k a) framed ok went told al z h apart allowed =
-    let o = or_parts (is_at a (reached_by e)) (is_at k (bid_of_event e)) h in
-    unread w e s (Arrive k a) framed ok al z (or_from _ _ (or_from _ _ (reach.subs e k o.1) (reach.sub e k a o.0)) (or_from _ _ (reach.reached_epochs e a o.0) (reach.tails e a o.0))) allowed
+    unread w e s (Arrive k a) framed ok al z (or_from _ _ (or_from _ _ refl (reach.sub e k a h)) (or_from _ _ (reach.reached_epochs e a h) (reach.tails e a h))) allowed
 keeps w e s (Ask t a) framed ok went told al z h apart allowed =
     let o = or_parts (spreads e) (is_at a (rolled_back_by e) || is_at t (taken_by e)) h in
     let q = or_parts (is_at a (rolled_back_by e)) (is_at t (taken_by e)) o.1 in
@@ -190,55 +192,78 @@ keeps w e s (Close t a) framed ok went told al z h apart allowed =
     let o = or_parts (is_at a (cut_by e)) (is_at t (done_by e)) h in
     (result_went w e s t allowed.0, (undone_went w e s t a o.0 o.1 allowed.1.0, tt))
 keeps w e s (Complete k a) framed ok went told al z h apart allowed = (lacking_went w e s k a h apart allowed.0, (ahead_went w e s k a h allowed.0 allowed.1.0, (all_done_went w e s k a h allowed.1.1.0, tt)))
-keeps w e s (Sync l) framed ok went told al z h apart allowed = unread w e s (Sync l) framed ok al z (reach.log w e l h) allowed
+keeps w e s (Sync l) framed ok went told al z h apart allowed = sync_went w e s l apart allowed
+keeps w (Form j) s (Note k a) framed ok went told al z h apart allowed = (
+  formed_note w j s k a allowed.0,
+  (durable_went (is_complete k a) s.logs (after w (Form j) s).logs (a % w.text.logs) went.logs allowed.1.0, tt),
+)
 keeps w e s (Note k a) framed ok went told al z h apart allowed = (
-  note_test w e s k a z (reach.stage e k h) (other_note e k a apart) ∙ allowed.0,
+  note_test w e s k a z (note_stage w e s k a refl h al allowed) (other_note e k a apart) ∙ allowed.0,
   (durable_went (is_complete k a) s.logs (after w e s).logs (a % w.text.logs) went.logs allowed.1.0, tt),
 )
+keeps w (Note j b) s (Commit k) framed ok went told al z h apart allowed = (
+  rw (next_stays w (Note j b) s k (framed (Note j b) s) ok.bids al z refl, open_test w (Note j b) s k (is_next_to_commit k s.desk.batches) z refl) allowed.0,
+  (
+    pacts_test w (Note j b) s k (list_all (λ p. is_value p.result)) z refl refl ∙ allowed.1.0,
+    (noted_more w j b s k allowed.1.1.0, (durable_went (is_info k) s.logs (after w (Note j b) s).logs (k % w.text.logs) went.logs allowed.1.1.1.0, tt)),
+  ),
+)
 keeps w e s (Commit k) framed ok went told al z h apart allowed =
-    let o = or_parts (is_on_batches e) (is_at k (bid_of_event e)) h in
-    let st = reach.stage e k o.1 in (
-      rw (next_stays w e s k (framed e s) ok.bids al z (reach.next e k o.0), open_test w e s k (is_next_to_commit k s.desk.batches) z st) allowed.0,
+    let st = commit_stage e k h apart in (
+      rw (next_stays w e s k (framed e s) ok.bids al z (reach.next e k h), open_test w e s k (is_next_to_commit k s.desk.batches) z st) allowed.0,
       (
-        pacts_test w e s k (list_all (λ p. is_value p.result)) z st (reach.results e s k o.0) ∙ allowed.1.0,
-        (noted_test w e s k z st (reach.noted e k o.0) ∙ allowed.1.1.0, (durable_went (is_info k) s.logs (after w e s).logs (k % w.text.logs) went.logs allowed.1.1.1.0, tt)),
+        pacts_test w e s k (list_all (λ p. is_value p.result)) z st (reach.results e s k h) ∙ allowed.1.0,
+        (noted_test w e s k z st refl ∙ allowed.1.1.0, (durable_went (is_info k) s.logs (after w e s).logs (k % w.text.logs) went.logs allowed.1.1.1.0, tt)),
       ),
     )
+keeps w (Form j) s (Settle k) framed ok went told al z h apart allowed = (
+  formed_settle w j s k allowed.0,
+  (durable_went (is_commit k) s.logs (after w (Form j) s).logs (k % w.text.logs) went.logs allowed.1.0, tt),
+)
 keeps w e s (Settle k) framed ok went told al z h apart allowed = (
-  commits_test w e s k z (reach.stage e k h) ∙ allowed.0,
+  commits_test w e s k z (settle_stage w e s k refl al apart allowed) ∙ allowed.0,
   (durable_went (is_commit k) s.logs (after w e s).logs (k % w.text.logs) went.logs allowed.1.0, tt),
 )
 keeps w e s (Abort k) framed ok went told al z h apart allowed =
-    let o = or_parts (is_on_batches e) (is_at k (bid_of_event e)) h in
-    unread w e s (Abort k) framed ok al z (or_from _ _ (reach.stage e k o.1) (or_from _ _ (reach.results e s k o.0) (reach.next e k o.0))) allowed
+    let o = or_parts (is_on_batches e) (is_at k (committed_by e)) h in
+    unread w e s (Abort k) framed ok al z (or_from _ _ (abort_stage e k o.0 o.1) (or_from _ _ (reach.results e s k o.0) (reach.next e k o.0))) allowed
 keeps w e s (Rollback a) framed ok went told al z h apart allowed = unread w e s (Rollback a) framed ok al z (reach.epochs e a h) allowed
-keeps w e s (DropSub k a) framed ok went told al z h apart allowed =
-    let o = or_parts (is_at a (reached_by e)) (is_at k (bid_of_event e)) h in
-    unread w e s (DropSub k a) framed ok al z (or_from _ _ (reach.subs e k o.1) (reach.sub e k a o.0)) allowed
+keeps w (Form j) s (DropSub k a) framed ok went told al z h apart allowed = posted_drop w j s k a allowed
+keeps w e s (DropSub k a) framed ok went told al z h apart allowed = unread w e s (DropSub k a) framed ok al z (or_from _ _ refl (reach.sub e k a h)) allowed
 keeps w e s (DropControl t) framed ok went told al z h apart allowed =
     rw (control_went w e s t h allowed.0) (allowed.0, (given_up_went w e s (control_of t s.post.controls) z went.acts allowed.1.0, tt))
+keeps w (Admit u) s (Prepare t a) framed ok went told al z h apart allowed = admitted_prepare w u s t a allowed
 keeps w e s (Prepare t a) framed ok went told al z h apart allowed =
-    let o = or_parts (spreads e) (is_at t (voted_by e)) h in
-    unread w e s (Prepare t a) framed ok al z (or_from _ _ (reach.acts e s t o.0 o.1) (reach.prepared e t a o.1)) allowed
+    let o = or_parts (spreads e) (is_at t (fated_by e)) h in
+    unread w e s (Prepare t a) framed ok al z (or_from _ _ (reach.acts e s t refl o.0 o.1) (reach.prepares e t a apart)) allowed
+keeps w (Admit u) s (Vouch t a) framed ok went told al z h apart allowed = admitted_vouch w u s t a allowed
 keeps w e s (Vouch t a) framed ok went told al z h apart allowed =
-    let o = or_parts (spreads e) (is_at t (voted_by e)) h in (
-      act_test w e s t (λ x. is_live_act x && (not (is_doomed x.status) && holds (λ p. p.prepared && not p.vouched) (joined_of a x))) (λ x. refl) (vouch_bears e t a (or_from _ _ (reach.prepared e t a o.1) (reach.vouched e t a o.1)) (reach.left e t o.1)) z (reach.acts e s t o.0 o.1) ∙ allowed.0,
+    let o = or_parts (spreads e) (is_at t (fated_by e) || is_at t (moved_by e)) h in
+    let q = or_parts (is_at t (fated_by e)) (is_at t (moved_by e)) o.1 in (
+      act_test w e s t (λ x. is_live_act x && (not (is_doomed x.status) && holds (λ p. p.prepared && not p.vouched) (joined_of a x))) (λ x. refl) (vouch_bears e t a (or_from _ _ (reach.prepared e t a q.1) (reach.vouches e t a apart)) (reach.left e t q.1)) z (reach.acts e s t refl o.0 q.0) ∙ allowed.0,
       (durable_went (is_prepare t a) s.logs (after w e s).logs (a % w.text.logs) went.logs allowed.1.0, tt),
     )
+keeps w (Admit u) s (Decide t) framed ok went told al z h apart allowed = admitted_decide w u s t allowed
 keeps w e s (Decide t) framed ok went told al z h apart allowed =
-    let o = or_parts (spreads e || is_settle e) (is_at t (voted_by e)) h in
+    let o = or_parts (spreads e || is_settle e) (is_at t (fated_by e) || is_at t (vouched_by e)) h in
     let p = or_parts (spreads e) (is_settle e) o.0 in
-    unread w e s (Decide t) framed ok al z (or_from _ _ (reach.acts e s t p.0 o.1) (or_from _ _ (reach.votes e t o.1) (reach.settled e p.1))) allowed
-keeps w e s (Seal t) framed ok went told al z h apart allowed =
-    let o = or_parts (spreads e) (is_at t (voted_by e)) h in (
-      act_test w e s t (λ x. is_decided x.status) (λ x. refl) (plain (λ x. is_decided x.status) e t (λ b f x. refl)) z (reach.acts e s t o.0 o.1) ∙ allowed.0,
-      (durable_went (is_act_commit t) s.logs (after w e s).logs (t % w.text.logs) went.logs allowed.1.0, tt),
-    )
+    let q = or_parts (is_at t (fated_by e)) (is_at t (vouched_by e)) o.1 in
+    unread w e s (Decide t) framed ok al z (or_from _ _ (reach.acts e s t refl p.0 q.0) (or_from _ _ (reach.votes e t q.1) (reach.settled e p.1))) allowed
+keeps w (Admit u) s (Seal t) framed ok went told al z h apart allowed = admitted_seal w u s t allowed
+keeps w (Arrive k b) s (Seal t) framed ok went told al z h apart allowed = arrived_seal w k b s t allowed
+keeps w (Ask u b) s (Seal t) framed ok went told al z h apart allowed = asked_seal w u b s t allowed
+keeps w e s (Seal t) framed ok went told al z h apart allowed = (
+  act_test w e s t (λ x. is_decided x.status) (λ x. refl) (plain (λ x. is_decided x.status) e t (λ b f x. refl)) z (reach.acts e s t refl refl h) ∙ allowed.0,
+  (durable_went (is_act_commit t) s.logs (after w e s).logs (t % w.text.logs) went.logs allowed.1.0, tt),
+)
+keeps w (Admit u) s (Finish t a) framed ok went told al z h apart allowed = admitted_finish w u s t a allowed
+keeps w (Arrive k b) s (Finish t a) framed ok went told al z h apart allowed = arrived_finish w k b s t a allowed
+keeps w (Ask u b) s (Finish t a) framed ok went told al z h apart allowed = asked_finish w u b s t a allowed
 keeps w e s (Finish t a) framed ok went told al z h apart allowed =
-    let o = or_parts (spreads e) (is_at t (voted_by e)) h in
-    unread w e s (Finish t a) framed ok al z (or_from _ _ (reach.acts e s t o.0 o.1) (reach.finished e t a o.1)) allowed
+    unread w e s (Finish t a) framed ok al z (or_from _ _ (reach.acts e s t refl refl h) (reach.finishes e t a apart)) allowed
 keeps w e s (Reply n) framed ok went told al z h apart allowed = reply_stays w e s n told apart allowed
-keeps w e s (Trim k a) framed ok went told al z h apart allowed = (trim_test w e s k a z (reach.stage e k h) (other_trim e k a apart) ∙ allowed.0, tt)
+keeps w (Form j) s (Trim k a) framed ok went told al z h apart allowed = (formed_trim w j s k a allowed.0, tt)
+keeps w e s (Trim k a) framed ok went told al z h apart allowed = (trim_test w e s k a z (trim_stage w e s k a refl al allowed) (other_trim e k a apart) ∙ allowed.0, tt)
 
 not_both : (b : Bool) → (b && true) ≡ false → b ≡ false
 not_both true h = h

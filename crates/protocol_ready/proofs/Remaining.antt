@@ -22,7 +22,7 @@ use Rattle.protocol_ready.proofs.TouchedActs.{doom_test}
 use Rattle.protocol_ready.proofs.TouchedBatches.{names_kept, result_stays}
 
 -- what is found is found before what comes behind
-found_first : {X : Type 0} (meant : X → Bool) (xs more : List X) → is_some (find meant xs) ≡ true → find meant (xs ++ more) ≡ find meant xs
+pub found_first : {X : Type 0} (meant : X → Bool) (xs more : List X) → is_some (find meant xs) ≡ true → find meant (xs ++ more) ≡ find meant xs
 found_first meant [] more h = absurd (true≢false (sym h))
 found_first meant (x ∷ xs) more h = by (meant x) h (found_first meant xs more)
   where

@@ -185,7 +185,7 @@ put_holds p s a b c h = by (b == a) refl
     by false e = ap (holds p) (get_other s.cells a b c (eqb-false b a e))
 
 -- a test that the new element passes where the one in its place did
-set_passes : {X : Type 0} (p : X → Bool) (xs : List X) (i j : ℕ) (d y : X) → (p (slice_index_or xs j d) ≡ true → p y ≡ true) → holds p (slice_get xs i) ≡ true → holds p (slice_get (slice_set xs j y) i) ≡ true
+pub set_passes : {X : Type 0} (p : X → Bool) (xs : List X) (i j : ℕ) (d y : X) → (p (slice_index_or xs j d) ≡ true → p y ≡ true) → holds p (slice_get xs i) ≡ true → holds p (slice_get (slice_set xs j y) i) ≡ true
 set_passes p [] i j d y h k = k
 set_passes p (x ∷ xs) zero zero d y h k = h k
 set_passes p (x ∷ xs) (suc i) zero d y h k = k

@@ -39,24 +39,28 @@ done_by (Run t a) = Some t
 done_by (Close t a) = Some t
 done_by _ = None
 
--- the ACT whose votes, result or status it changes
-abbrev pub voted_by : Event → Option ℕ
-voted_by (Admit t) = Some t
-voted_by (Ask t a) = Some t
-voted_by (End t a) = Some t
-voted_by (Prepare t a) = Some t
-voted_by (Vouch t a) = Some t
-voted_by (Decide t) = Some t
-voted_by (Seal t) = Some t
-voted_by (Finish t a) = Some t
-voted_by _ = None
+-- the ACT whose result or status it changes
+abbrev pub fated_by : Event → Option ℕ
+fated_by (End t a) = Some t
+fated_by (Decide t) = Some t
+fated_by (Seal t) = Some t
+fated_by _ = None
 
--- the batch that comes to be, or goes on
-abbrev pub bid_of_event : Event → Option ℕ
-bid_of_event (Form k) = Some k
-bid_of_event (Commit k) = Some k
-bid_of_event (Settle k) = Some k
-bid_of_event _ = None
+-- the ACT whose vote on an actor it adds, or that leaves one
+abbrev pub moved_by : Event → Option ℕ
+moved_by (Prepare t a) = Some t
+moved_by (Finish t a) = Some t
+moved_by _ = None
+
+-- the ACT whose vote on an actor is known to be durable then
+abbrev pub vouched_by : Event → Option ℕ
+vouched_by (Vouch t a) = Some t
+vouched_by _ = None
+
+-- the batch that commits
+abbrev pub committed_by : Event → Option ℕ
+committed_by (Commit k) = Some k
+committed_by _ = None
 
 -- the actor to which a sub-batch comes, or whose sub-batches are counted anew
 abbrev pub reached_by : Event → Option ℕ
@@ -80,13 +84,15 @@ abbrev pub is_at : ℕ → Option ℕ → Bool
 is_at n None = false
 is_at n (Some m) = m == n
 
--- one of the coordinators
-abbrev pub is_on_ring : Event → Bool
-is_on_ring (Submit n) = true
-is_on_ring (Pass c) = true
-is_on_ring (Form k) = true
-is_on_ring (Admit t) = true
-is_on_ring _ = false
+-- a transaction joins a queue
+abbrev pub is_submit : Event → Bool
+is_submit (Submit n) = true
+is_submit _ = false
+
+-- a batch leaves its queue, and its PACTs get their numbers
+abbrev pub is_form : Event → Bool
+is_form (Form k) = true
+is_form _ = false
 
 -- ACTs may be given up by it, also others than its own
 abbrev pub spreads : Event → Bool
@@ -94,31 +100,15 @@ spreads (Arrive k a) = true
 spreads (Ask t a) = true
 spreads _ = false
 
--- how many batches and ACTs are live may change with it
-abbrev pub may_free : Event → Bool
-may_free (Arrive k a) = true
-may_free (Ask t a) = true
-may_free (Decide t) = true
-may_free (Seal t) = true
-may_free (Finish t a) = true
-may_free (Trim k a) = true
-may_free _ = false
-
--- it adds records to a log, or syncs it
-abbrev pub is_on_log : Event → Bool
-is_on_log (Form k) = true
-is_on_log (Complete k a) = true
-is_on_log (Sync l) = true
-is_on_log (Commit k) = true
-is_on_log (Prepare t a) = true
-is_on_log (Decide t) = true
-is_on_log _ = false
+-- more ACTs may be live behind it
+abbrev pub is_ask : Event → Bool
+is_ask (Ask t a) = true
+is_ask _ = false
 
 -- whether a batch may commit, or has failed, may change with it
 abbrev pub is_on_batches : Event → Bool
 is_on_batches (Form k) = true
 is_on_batches (End t a) = true
-is_on_batches (Note k a) = true
 is_on_batches (Settle k) = true
 is_on_batches _ = false
 
@@ -129,11 +119,11 @@ is_settle _ = false
 -- ---- what may be refused, but the event itself
 
 abbrev pub is_in_reach : Event → Event → Bool
-is_in_reach e (Submit n) = is_on_ring e
-is_in_reach e (Pass c) = is_on_ring e
-is_in_reach e (Form k) = is_on_ring e || may_free e
-is_in_reach e (Admit t) = is_on_ring e || may_free e
-is_in_reach e (Arrive k a) = is_at a (reached_by e) || is_at k (bid_of_event e)
+is_in_reach e (Submit n) = false
+is_in_reach e (Pass c) = is_submit e
+is_in_reach e (Form k) = false
+is_in_reach e (Admit t) = is_form e || is_ask e
+is_in_reach e (Arrive k a) = is_at a (reached_by e)
 is_in_reach e (Ask t a) = spreads e || (is_at a (rolled_back_by e) || is_at t (taken_by e))
 is_in_reach e (Take t a) = is_at a (cut_by e) || (is_at t (taken_by e) || is_at t (left_by e))
 is_in_reach e (Run t a) = is_at a (cut_by e) || is_at t (left_by e)
@@ -141,21 +131,21 @@ is_in_reach e (Send t a) = is_at a (rolled_back_by e) || is_at t (handed_on_by e
 is_in_reach e (End t a) = is_at a (rolled_back_by e) || is_at t (handed_on_by e)
 is_in_reach e (Close t a) = is_at a (cut_by e) || is_at t (done_by e)
 is_in_reach e (Complete k a) = is_at a (cut_by e)
-is_in_reach e (Sync l) = is_on_log e
-is_in_reach e (Note k a) = is_at k (bid_of_event e)
-is_in_reach e (Commit k) = is_on_batches e || is_at k (bid_of_event e)
-is_in_reach e (Settle k) = is_at k (bid_of_event e)
-is_in_reach e (Abort k) = is_on_batches e || is_at k (bid_of_event e)
+is_in_reach e (Sync l) = false
+is_in_reach e (Note k a) = is_at k (committed_by e)
+is_in_reach e (Commit k) = is_on_batches e
+is_in_reach e (Settle k) = false
+is_in_reach e (Abort k) = is_on_batches e || is_at k (committed_by e)
 is_in_reach e (Rollback a) = is_at a (rolled_back_by e)
-is_in_reach e (DropSub k a) = is_at a (reached_by e) || is_at k (bid_of_event e)
+is_in_reach e (DropSub k a) = is_at a (reached_by e)
 is_in_reach e (DropControl t) = is_at t (taken_by e)
-is_in_reach e (Prepare t a) = spreads e || is_at t (voted_by e)
-is_in_reach e (Vouch t a) = spreads e || is_at t (voted_by e)
-is_in_reach e (Decide t) = (spreads e || is_settle e) || is_at t (voted_by e)
-is_in_reach e (Seal t) = spreads e || is_at t (voted_by e)
-is_in_reach e (Finish t a) = spreads e || is_at t (voted_by e)
+is_in_reach e (Prepare t a) = spreads e || is_at t (fated_by e)
+is_in_reach e (Vouch t a) = spreads e || (is_at t (fated_by e) || is_at t (moved_by e))
+is_in_reach e (Decide t) = (spreads e || is_settle e) || (is_at t (fated_by e) || is_at t (vouched_by e))
+is_in_reach e (Seal t) = is_at t (fated_by e)
+is_in_reach e (Finish t a) = is_at t (fated_by e)
 is_in_reach e (Reply n) = false
-is_in_reach e (Trim k a) = is_at k (bid_of_event e)
+is_in_reach e (Trim k a) = false
 
 abbrev pub is_reply : Event → Bool
 is_reply (Reply n) = true

@@ -223,6 +223,10 @@ put_where_there es e i a through apart g h = let q = there_parts es e i a h in s
 pub put_where_new : (es : List Event) (e : Event) (i : ℕ) → AreOfKind (kind_of e) es → Through → Apart → IsGap es e i → is_there es e i ≡ false → insert es i e ≡ put e es
 put_where_new es e i a through apart g h = sym (put_new es e i through apart g (not_there es e i a h))
 
+-- behind all, where the list has this length
+pub put_behind : (es : List Event) (e : Event) (i : ℕ) → Through → Apart → i ≡ length es → IsGap es e (length es) → insert es i e ≡ put e es
+put_behind es e i through apart n g = subst (λ m. insert es m e ≡ put e es) (sym n) (sym (put_new es e (length es) through apart g (λ h. absurd (omega (arith, h)))))
+
 -- ---- taking out
 
 kept_all : (e : Event) (es : List Event) → IsBelowEach (rank e) es → without e es ≡ es

@@ -19,11 +19,15 @@ told_by_kinds (Submit n) (Reply m) = refl
 told_by_kinds (Pass c) (Reply m) = refl
 told_by_kinds (Form k) (Reply m) = refl
 told_by_kinds (Admit t) (Reply m) = refl
+told_by_kinds (Arrive k a) (Arrive j b) = false_or (a == b)
+told_by_kinds (Arrive k a) (DropSub j b) = false_or (a == b)
 told_by_kinds (Arrive k a) (Reply m) = refl
 told_by_kinds (Ask t a) (Take u b) = or_false (t == u)
 told_by_kinds (Take t a) (Take u b) = or_false (t == u)
 told_by_kinds (Run t a) (Reply m) = refl
 told_by_kinds (Send t a) (Reply m) = refl
+told_by_kinds (End t a) (Vouch u b) = or_false (t == u)
+told_by_kinds (End t a) (Decide u) = or_false (t == u)
 told_by_kinds (End t a) (Reply m) = refl
 told_by_kinds (Close t a) (Reply m) = refl
 told_by_kinds (Complete k a) (Reply m) = refl
@@ -32,12 +36,20 @@ told_by_kinds (Note k a) (Reply m) = refl
 told_by_kinds (Commit k) (Reply m) = refl
 told_by_kinds (Settle k) (Reply m) = refl
 told_by_kinds (Abort k) (Reply m) = refl
+told_by_kinds (Rollback a) (Arrive k b) = false_or (a == b)
+told_by_kinds (Rollback a) (DropSub k b) = false_or (a == b)
 told_by_kinds (Rollback a) (Complete k b) = false_or (a == b)
+told_by_kinds (DropSub k a) (Arrive j b) = false_or (a == b)
+told_by_kinds (DropSub k a) (DropSub j b) = false_or (a == b)
 told_by_kinds (DropSub k a) (Reply m) = refl
 told_by_kinds (DropControl t) (Take u b) = or_false (t == u)
 told_by_kinds (Prepare t a) (Reply m) = refl
 told_by_kinds (Vouch t a) (Reply m) = refl
+told_by_kinds (Decide t) (Vouch u b) = or_false (t == u)
+told_by_kinds (Decide t) (Decide u) = or_false (t == u)
 told_by_kinds (Decide t) (Reply m) = refl
+told_by_kinds (Seal t) (Vouch u b) = or_false (t == u)
+told_by_kinds (Seal t) (Decide u) = or_false (t == u)
 told_by_kinds (Seal t) (Reply m) = refl
 told_by_kinds (Finish t a) (Reply m) = refl
 told_by_kinds (Reply n) (Reply m) = refl

@@ -1,7 +1,7 @@
 -- Of which kinds an event may refuse events, and which of these. The kinds are those of `rank`.
 use Rattle.std.specs.Prelude.{ℕ, ◌==◌, Bool, ◌&&◌, ◌||◌, List, [], ◌∷◌}
 use Rattle.std.specs.List.{list_any}
-use Rattle.protocol.specs.Events.{Event, Submit, Pass, Form, Admit, Arrive, Ask, Take, Run, Send, End, Close, Complete, Sync, Note, Commit, Settle, Abort, Rollback, DropSub, DropControl, Prepare, Vouch, Decide, Seal, Finish, Trim}
+use Rattle.protocol.specs.Events.{Event, Submit, Form, Arrive, Ask, Take, Run, Send, End, Close, Commit, Settle, Abort, Rollback, DropSub, DropControl, Prepare, Vouch, Decide, Seal, Finish, Trim}
 use Rattle.ready_list.specs.Order.{first_of, kind_of, numbers}
 
 -- the event is of one of these kinds
@@ -14,24 +14,13 @@ is_reached wholly on_actor actor numbered number f = is_among wholly f || ((is_a
 
 -- of these kinds an event may refuse all
 abbrev pub kinds_wholly : Event → List ℕ
-kinds_wholly (Submit n) = 1 ∷ 2 ∷ 3 ∷ 4 ∷ []
-kinds_wholly (Pass c) = 1 ∷ 2 ∷ 3 ∷ 4 ∷ []
-kinds_wholly (Form k) = 1 ∷ 2 ∷ 3 ∷ 4 ∷ 13 ∷ 15 ∷ 17 ∷ []
-kinds_wholly (Admit t) = 1 ∷ 2 ∷ 3 ∷ 4 ∷ []
-kinds_wholly (Arrive k a) = 3 ∷ 4 ∷ 6 ∷ 21 ∷ 22 ∷ 23 ∷ 24 ∷ 25 ∷ []
-kinds_wholly (Ask t a) = 3 ∷ 4 ∷ 6 ∷ 21 ∷ 22 ∷ 23 ∷ 24 ∷ 25 ∷ []
+kinds_wholly (Submit n) = 2 ∷ []
+kinds_wholly (Form k) = 4 ∷ 15 ∷ 17 ∷ []
+kinds_wholly (Arrive k a) = 6 ∷ 21 ∷ 22 ∷ 23 ∷ []
+kinds_wholly (Ask t a) = 4 ∷ 6 ∷ 21 ∷ 22 ∷ 23 ∷ []
 kinds_wholly (End t a) = 15 ∷ 17 ∷ []
-kinds_wholly (Complete k a) = 13 ∷ []
-kinds_wholly (Sync l) = 13 ∷ []
-kinds_wholly (Note k a) = 15 ∷ 17 ∷ []
-kinds_wholly (Commit k) = 13 ∷ []
 kinds_wholly (Settle k) = 15 ∷ 17 ∷ 23 ∷ []
 kinds_wholly (Abort k) = 1 ∷ 2 ∷ 3 ∷ 4 ∷ 5 ∷ 6 ∷ 7 ∷ 8 ∷ 9 ∷ 10 ∷ 11 ∷ 12 ∷ 13 ∷ 14 ∷ 15 ∷ 16 ∷ 17 ∷ 18 ∷ 19 ∷ 20 ∷ 21 ∷ 22 ∷ 23 ∷ 24 ∷ 25 ∷ 27 ∷ []
-kinds_wholly (Prepare t a) = 13 ∷ []
-kinds_wholly (Decide t) = 3 ∷ 4 ∷ 13 ∷ []
-kinds_wholly (Seal t) = 3 ∷ 4 ∷ []
-kinds_wholly (Finish t a) = 3 ∷ 4 ∷ []
-kinds_wholly (Trim k a) = 3 ∷ 4 ∷ []
 kinds_wholly _ = []
 
 -- of these those on its actor
@@ -44,23 +33,20 @@ kinds_on_actor _ = []
 
 -- of these those with its first number
 abbrev pub kinds_numbered : Event → List ℕ
-kinds_numbered (Form k) = 5 ∷ 14 ∷ 16 ∷ 19 ∷ 27 ∷ []
-kinds_numbered (Admit t) = 21 ∷ 22 ∷ 23 ∷ 24 ∷ 25 ∷ []
 kinds_numbered (Ask t a) = 7 ∷ 20 ∷ []
 kinds_numbered (Take t a) = 6 ∷ 7 ∷ 20 ∷ []
 kinds_numbered (Run t a) = 11 ∷ []
 kinds_numbered (Send t a) = 9 ∷ 10 ∷ []
 kinds_numbered (End t a) = 9 ∷ 10 ∷ 21 ∷ 22 ∷ 23 ∷ 24 ∷ 25 ∷ []
 kinds_numbered (Close t a) = 11 ∷ []
-kinds_numbered (Commit k) = 5 ∷ 14 ∷ 15 ∷ 16 ∷ 17 ∷ 19 ∷ 27 ∷ []
-kinds_numbered (Settle k) = 5 ∷ 14 ∷ 16 ∷ 19 ∷ 27 ∷ []
+kinds_numbered (Commit k) = 14 ∷ 17 ∷ []
 kinds_numbered (Rollback a) = 18 ∷ []
 kinds_numbered (DropControl t) = 6 ∷ 7 ∷ 20 ∷ []
-kinds_numbered (Prepare t a) = 21 ∷ 22 ∷ 23 ∷ 24 ∷ 25 ∷ []
-kinds_numbered (Vouch t a) = 21 ∷ 22 ∷ 23 ∷ 24 ∷ 25 ∷ []
+kinds_numbered (Prepare t a) = 22 ∷ []
+kinds_numbered (Vouch t a) = 23 ∷ []
 kinds_numbered (Decide t) = 21 ∷ 22 ∷ 23 ∷ 24 ∷ 25 ∷ []
 kinds_numbered (Seal t) = 21 ∷ 22 ∷ 23 ∷ 24 ∷ 25 ∷ []
-kinds_numbered (Finish t a) = 7 ∷ 8 ∷ 9 ∷ 10 ∷ 21 ∷ 22 ∷ 23 ∷ 24 ∷ 25 ∷ []
+kinds_numbered (Finish t a) = 7 ∷ 8 ∷ 9 ∷ 10 ∷ 22 ∷ []
 kinds_numbered _ = []
 
 -- its actor, where there is one

@@ -4,7 +4,7 @@ ghost use Rattle.std.specs.Prelude.{◌≡◌};
 ghost use Rattle.core_events.specs.Meant.{event_meant};
 ghost use Rattle.protocol.specs.Events as machine;
 ghost use Rattle.protocol_ready.specs.Refusing.{may_refuse};
-ghost use Rattle.ready_list.specs.Order.{is_one};
+ghost use Rattle.ready_list.specs.Order.{first_of, is_one};
 ghost use Rattle.ready_list.specs.Reaches.{actor_of, is_among, is_reached, kinds_numbered, kinds_on_actor, kinds_wholly};
 
 use crate::kinds::{
@@ -34,17 +34,132 @@ pub struct Reach {
 }
 
 impl Reach {
-    /// The reach of an event.
+    /// The reach of an event. A Submit gives a coordinator what it waits for, and a Form draws numbers. How many batches and ACTs are
+    /// live decides whether one more may begin. Batches decide which of them may commit or has failed. ACTs may be given up with
+    /// others than the one that asks. Sub-batches that come to an actor or go from it refuse each other, and a schedule that is cut
+    /// refuses what stands in it. A control or an outcome is taken once, and votes follow one another. The first number of a
+    /// Rollback is its actor.
     pub fn of(e: Event) -> Reach
         ensures { result.event ≡ e }
     {
-        Reach {
-            event: e,
-            wholly: kinds_wholly(e),
-            on_actor: kinds_on_actor(e),
-            numbered: kinds_numbered(e),
-            actor: actor_of(e),
-            number: place_of(e).first,
+        match e {
+            Event::Submit(n) => by_kinds(e, &[PASS], &[], &[], 0, n.0 as u64),
+            Event::Pass(c) => by_kinds(e, &[], &[], &[], 0, c as u64),
+            Event::Form(k) => by_kinds(e, &[ADMIT, COMMIT, ABORT_BATCH], &[], &[], 0, k.0),
+            Event::Admit(t) => by_kinds(e, &[], &[], &[], 0, t.0),
+            Event::Arrive(k, a) => by_kinds(
+                e,
+                &[ASK, PREPARE, VOUCH, DECIDE],
+                &[ARRIVE, DROP_SUB],
+                &[],
+                a.0 as u64,
+                k.0,
+            ),
+            Event::Ask(t, a) => by_kinds(
+                e,
+                &[ADMIT, ASK, PREPARE, VOUCH, DECIDE],
+                &[],
+                &[TAKE, DROP_CONTROL],
+                a.0 as u64,
+                t.0,
+            ),
+            Event::Take(t, a) => by_kinds(e, &[], &[], &[ASK, TAKE, DROP_CONTROL], a.0 as u64, t.0),
+            Event::Run(t, a) => by_kinds(e, &[], &[], &[CLOSE], a.0 as u64, t.0),
+            Event::Send(t, a) => by_kinds(e, &[], &[], &[SEND, END], a.0 as u64, t.0),
+            Event::End(t, a) => by_kinds(
+                e,
+                &[COMMIT, ABORT_BATCH],
+                &[],
+                &[SEND, END, PREPARE, VOUCH, DECIDE, SEAL, FINISH],
+                a.0 as u64,
+                t.0,
+            ),
+            Event::Close(t, a) => by_kinds(e, &[], &[], &[CLOSE], a.0 as u64, t.0),
+            Event::Complete(k, a) => by_kinds(e, &[], &[], &[], a.0 as u64, k.0),
+            Event::Sync(l) => by_kinds(e, &[], &[], &[], 0, l as u64),
+            Event::Note(k, a) => by_kinds(e, &[], &[], &[], a.0 as u64, k.0),
+            Event::Commit(k) => by_kinds(e, &[], &[], &[NOTE, ABORT_BATCH], 0, k.0),
+            Event::Settle(k) => by_kinds(e, &[COMMIT, ABORT_BATCH, DECIDE], &[], &[], 0, k.0),
+            Event::AbortBatch(k) => by_kinds(
+                e,
+                &[
+                    SUBMIT,
+                    PASS,
+                    FORM,
+                    ADMIT,
+                    ARRIVE,
+                    ASK,
+                    TAKE,
+                    RUN,
+                    SEND,
+                    END,
+                    CLOSE,
+                    COMPLETE,
+                    SYNC,
+                    NOTE,
+                    COMMIT,
+                    SETTLE,
+                    ABORT_BATCH,
+                    ROLLBACK,
+                    DROP_SUB,
+                    DROP_CONTROL,
+                    PREPARE,
+                    VOUCH,
+                    DECIDE,
+                    SEAL,
+                    FINISH,
+                    TRIM,
+                ],
+                &[],
+                &[],
+                0,
+                k.0,
+            ),
+            Event::Rollback(a) => by_kinds(
+                e,
+                &[],
+                &[ARRIVE, ASK, TAKE, RUN, SEND, END, CLOSE, COMPLETE, DROP_SUB],
+                &[ROLLBACK],
+                a.0 as u64,
+                a.0 as u64,
+            ),
+            Event::DropSub(k, a) => by_kinds(e, &[], &[ARRIVE, DROP_SUB], &[], a.0 as u64, k.0),
+            Event::DropControl(t) => by_kinds(e, &[], &[], &[ASK, TAKE, DROP_CONTROL], 0, t.0),
+            Event::Prepare(t, a) => by_kinds(e, &[], &[], &[VOUCH], a.0 as u64, t.0),
+            Event::Vouch(t, a) => by_kinds(e, &[], &[], &[DECIDE], a.0 as u64, t.0),
+            Event::Decide(t) => by_kinds(
+                e,
+                &[],
+                &[],
+                &[PREPARE, VOUCH, DECIDE, SEAL, FINISH],
+                0,
+                t.0,
+            ),
+            Event::Seal(t) => by_kinds(
+                e,
+                &[],
+                &[],
+                &[PREPARE, VOUCH, DECIDE, SEAL, FINISH],
+                0,
+                t.0,
+            ),
+            Event::Finish(t, a) => by_kinds(
+                e,
+                &[],
+                &[],
+                &[TAKE, RUN, SEND, END, VOUCH],
+                a.0 as u64,
+                t.0,
+            ),
+            Event::Reply(n) => by_kinds(e, &[], &[], &[], 0, n.0 as u64),
+            Event::Trim(k, a) => by_kinds(
+                e,
+                &[],
+                &[TAKE, RUN, CLOSE, COMPLETE],
+                &[],
+                a.0 as u64,
+                k.0,
+            ),
         }
     }
 
@@ -71,96 +186,28 @@ fn is_among(kinds: &[u8], f: Event) -> bool
     kinds.contains(&kind_of(f))
 }
 
-// Coordinators refuse each other. How many batches and ACTs are live decides whether one more may begin. Records decide whether
-// there is a Sync, and batches which of them may commit or has failed. ACTs may be given up with others than the one that asks.
-fn kinds_wholly(e: Event) -> &'static [u8]
-    ensures { result.now ≡ kinds_wholly (event_meant e) }
+// What an event reaches, by its kinds.
+fn by_kinds(
+    event: Event,
+    wholly: &'static [u8],
+    on_actor: &'static [u8],
+    numbered: &'static [u8],
+    actor: u64,
+    number: u64,
+) -> Reach
+    requires wholly { wholly.now ≡ kinds_wholly (event_meant event) }
+    requires on_actor { on_actor.now ≡ kinds_on_actor (event_meant event) }
+    requires numbered { numbered.now ≡ kinds_numbered (event_meant event) }
+    requires actor { actor ≡ actor_of (event_meant event) }
+    requires number { number ≡ first_of (event_meant event) }
+    ensures { result.event ≡ event }
 {
-    match e {
-        Event::Submit(_) | Event::Pass(_) | Event::Admit(_) => &[SUBMIT, PASS, FORM, ADMIT],
-        Event::Form(_) => &[SUBMIT, PASS, FORM, ADMIT, SYNC, COMMIT, ABORT_BATCH],
-        Event::Arrive(_, _) | Event::Ask(_, _) => {
-            &[FORM, ADMIT, ASK, PREPARE, VOUCH, DECIDE, SEAL, FINISH]
-        }
-        Event::End(_, _) | Event::Note(_, _) => &[COMMIT, ABORT_BATCH],
-        Event::Settle(_) => &[COMMIT, ABORT_BATCH, DECIDE],
-        Event::Complete(_, _) | Event::Sync(_) | Event::Commit(_) | Event::Prepare(_, _) => &[SYNC],
-        Event::Decide(_) => &[FORM, ADMIT, SYNC],
-        Event::Seal(_) | Event::Finish(_, _) | Event::Trim(_, _) => &[FORM, ADMIT],
-        Event::AbortBatch(_) => &[
-            SUBMIT,
-            PASS,
-            FORM,
-            ADMIT,
-            ARRIVE,
-            ASK,
-            TAKE,
-            RUN,
-            SEND,
-            END,
-            CLOSE,
-            COMPLETE,
-            SYNC,
-            NOTE,
-            COMMIT,
-            SETTLE,
-            ABORT_BATCH,
-            ROLLBACK,
-            DROP_SUB,
-            DROP_CONTROL,
-            PREPARE,
-            VOUCH,
-            DECIDE,
-            SEAL,
-            FINISH,
-            TRIM,
-        ],
-        _ => &[],
-    }
-}
-
-// Sub-batches that come to an actor or go from it refuse each other, and a schedule that is cut refuses what stands in it.
-fn kinds_on_actor(e: Event) -> &'static [u8]
-    ensures { result.now ≡ kinds_on_actor (event_meant e) }
-{
-    match e {
-        Event::Arrive(_, _) | Event::DropSub(_, _) => &[ARRIVE, DROP_SUB],
-        Event::Rollback(_) => &[ARRIVE, ASK, TAKE, RUN, SEND, END, CLOSE, COMPLETE, DROP_SUB],
-        Event::Trim(_, _) => &[TAKE, RUN, CLOSE, COMPLETE],
-        _ => &[],
-    }
-}
-
-// A control or an outcome is taken once, votes follow one another, and a batch is over once. The first number of a Rollback is its
-// actor.
-fn kinds_numbered(e: Event) -> &'static [u8]
-    ensures { result.now ≡ kinds_numbered (event_meant e) }
-{
-    match e {
-        Event::Form(_) | Event::Settle(_) => &[ARRIVE, NOTE, SETTLE, DROP_SUB, TRIM],
-        Event::Commit(_) => &[ARRIVE, NOTE, COMMIT, SETTLE, ABORT_BATCH, DROP_SUB, TRIM],
-        Event::Ask(_, _) => &[TAKE, DROP_CONTROL],
-        Event::Take(_, _) | Event::DropControl(_) => &[ASK, TAKE, DROP_CONTROL],
-        Event::Run(_, _) | Event::Close(_, _) => &[CLOSE],
-        Event::Send(_, _) => &[SEND, END],
-        Event::End(_, _) => &[SEND, END, PREPARE, VOUCH, DECIDE, SEAL, FINISH],
-        Event::Admit(_)
-        | Event::Prepare(_, _)
-        | Event::Vouch(_, _)
-        | Event::Decide(_)
-        | Event::Seal(_) => &[PREPARE, VOUCH, DECIDE, SEAL, FINISH],
-        Event::Finish(_, _) => &[TAKE, RUN, SEND, END, PREPARE, VOUCH, DECIDE, SEAL, FINISH],
-        Event::Rollback(_) => &[ROLLBACK],
-        _ => &[],
-    }
-}
-
-// Its actor, where there is one.
-fn actor_of(e: Event) -> u64
-    ensures { result ≡ actor_of (event_meant e) }
-{
-    match e {
-        Event::Rollback(a) => a.0 as u64,
-        _ => place_of(e).second,
+    Reach {
+        event,
+        wholly,
+        on_actor,
+        numbered,
+        actor,
+        number,
     }
 }

@@ -81,6 +81,9 @@ impl Ring {
             return (&[], &[]);
         }
         let (head, tail) = self.events.as_slices();
+        if tail.is_empty() {
+            return (with_number(head, number), &[]);
+        }
         (with_number(head, number), with_number(tail, number))
     }
 
@@ -92,6 +95,9 @@ impl Ring {
         ensures unchanged { self.new.events ≡ self.old.events }
         ensures no_less { self.old.spare ≤ self.new.spare }
     {
+        if more <= self.events.capacity().saturating_sub(self.events.len()) {
+            return Ok(());
+        }
         self.events.reserve(more)?;
         Ok(())
     }
@@ -129,18 +135,6 @@ impl Ring {
         }
     }
 
-    // Where the event is, or would go. The last is looked at first, since mostly a new one goes behind it.
-    fn spot(&self, e: Event) -> usize
-        requires { AreOfKind (kind_of (event_meant e)) self.now.events }
-        ensures { IsGap self.now.events (event_meant e) result }
-    {
-        if self.is_behind_all(e) {
-            self.events.len()
-        } else {
-            self.gap(e)
-        }
-    }
-
     // Whether the event is the first.
     fn is_first(&self, e: Event) -> bool
         requires { AreOfKind (kind_of (event_meant e)) self.now.events }
@@ -162,7 +156,7 @@ impl Ring {
         at < self.events.len() && !place_of(e).is_below(&place_of(self.events[at]))
     }
 
-    /// Puts an event in, where it is not in. Whether it was not.
+    /// Puts an event in, where it is not in. Whether it was not. The last is looked at first, since mostly a new one goes behind it.
     pub(crate) fn put(&mut self, e: Event) -> bool
         requires kind { AreOfKind (kind_of (event_meant e)) self.old.events }
         requires room { 1 ≤ self.old.spare }
@@ -172,7 +166,12 @@ impl Ring {
     {
         events_stay_in_order();
         ranks_are_in_order();
-        let at = self.spot(e);
+        let count = self.events.len();
+        if self.is_behind_all(e) {
+            put_at(&mut self.events, count, e);
+            return true;
+        }
+        let at = self.gap(e);
         if self.is_at(at, e) {
             return false;
         }

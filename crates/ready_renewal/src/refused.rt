@@ -36,10 +36,10 @@ fn ask_again(
     requires some { OnSomeRun (fixed_of tables.now) hand.now }
     ensures { OnOk result (IsAsked (fixed_of tables.now) hand.now (event_meant reach.now.event) (event_meant f) (map event_meant gone.old.items) (map event_meant gone.new.items)) }
 {
-    if reach.is_of(f) {
+    if is_out_of_reach(reach, sure, f) {
         return Ok(());
     }
-    if is_out_of_reach(reach, sure, f) {
+    if reach.is_of(f) {
         return Ok(());
     }
     if is_allowed(tables, hand, f) {

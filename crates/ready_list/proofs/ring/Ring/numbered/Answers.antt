@@ -20,6 +20,13 @@ with_number-requires-2 c =
     let head = c.as_slices.result.0.now in
     let tail = c.as_slices.result.1.now in
     let v : map event_meant c.self.inside.events.items ≡ c.args.self.now.events = ap (λ r. r.events) c.self.view_is in
+    no_fall_ahead head tail (no_fall c.requires.0 (head ++ tail) c.args.self.now.events (ap (map event_meant) c.as_slices.ensures.items ∙ v) c.requires.1 (subst AscendByRank v c.self.invariant))
+
+pub with_number-requires-3 : goal.with_number-requires-3
+with_number-requires-3 c =
+    let head = c.as_slices.result.0.now in
+    let tail = c.as_slices.result.1.now in
+    let v : map event_meant c.self.inside.events.items ≡ c.args.self.now.events = ap (λ r. r.events) c.self.view_is in
     no_fall_behind head tail (no_fall c.requires.0 (head ++ tail) c.args.self.now.events (ap (map event_meant) c.as_slices.ensures.items ∙ v) c.requires.1 (subst AscendByRank v c.self.invariant))
 
 pub returns : goal.returns
@@ -28,8 +35,8 @@ returns c =
     let tail = c.as_slices.result.1.now in
     let v : map event_meant c.self.inside.events.items ≡ c.args.self.now.events = ap (λ r. r.events) c.self.view_is in
     let those = filter (λ f. first_of f == c.args.number) in
-    map-append event_meant c.with_number.result.now c.with_number-2.result.now
-    ∙ ap (λ l. l ++ map event_meant c.with_number-2.result.now) c.with_number.ensures
-    ∙ ap (λ l. those (map event_meant head) ++ l) c.with_number-2.ensures
+    map-append event_meant c.with_number-2.result.now c.with_number-3.result.now
+    ∙ ap (λ l. l ++ map event_meant c.with_number-3.result.now) c.with_number-2.ensures
+    ∙ ap (λ l. those (map event_meant head) ++ l) c.with_number-3.ensures
     ∙ sym (filter-append (λ f. first_of f == c.args.number) (map event_meant head) (map event_meant tail))
     ∙ ap those (sym (map-append event_meant head tail) ∙ ap (map event_meant) c.as_slices.ensures.items ∙ v)
