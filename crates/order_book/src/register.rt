@@ -20,6 +20,9 @@ use snap_base::{ActorId, Bid, Memory, Tid, TxNo};
 use std::alloc::Global;
 use std::marker::Model;
 
+/// So many ACTs are looked at one by one, the last first, before all are searched.
+const LAST_FEW: usize = 32;
+
 /// All ACTs, in the order of their admission, which is that of their tids: found by tid and by transaction, and
 /// counted while they are live. Contracts see the list of them.
 #[derive(Drop)]
@@ -208,8 +211,26 @@ impl Register {
     }
 }
 
-/// The place of a number among rising ones, or their length.
+/// The place of a number among rising ones, or their length. Mostly it is one of the last, as that of a live ACT.
 fn place_in(tids: &[u64], t: u64) -> usize
+    requires { Ascends tids.now }
+    ensures { result ≡ position_or_len (λ n. n == t) tids.now }
+{
+    let mut at = tids.len();
+    let first = at.saturating_sub(LAST_FEW);
+    while at > first {
+        at -= 1;
+        if tids[at] == t {
+            return at;
+        }
+        if tids[at] < t {
+            return tids.len();
+        }
+    }
+    place_among_all(tids, t)
+}
+
+fn place_among_all(tids: &[u64], t: u64) -> usize
     requires { Ascends tids.now }
     ensures { result ≡ position_or_len (λ n. n == t) tids.now }
 {

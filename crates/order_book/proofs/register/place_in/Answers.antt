@@ -1,16 +1,19 @@
-use Rattle.std.proofs.Common.{◌≡◌, ◌<◌, ◌≤◌, ℕ, sym, length, get_or}
-use Rattle.std.specs.Prelude.{Ok, Err}
-use Rattle.std.proofs.lemmas.List.Sorted.{searched}
+use Rattle.std.proofs.Common.{◌<◌, ◌≤◌, ◌-◌, ℕ, List, sym, length, get_or, arith}
+use Rattle.protocol.specs.Cutting.{Ascends}
 use Rattle.order_book.proofs.Finding.{rises, position_is, position_between}
 use Rattle.order_book.proofs.register.place_in.Goals as goal
 
-pub returns-in-Ok : goal.returns-in-Ok
-returns-in-Ok c =
-    let s : (c.in-Ok.at < length c.args.tids.now) × (get_or c.args.tids.now c.in-Ok.at 0 ≡ c.args.t) = searched c.args.tids.now c.args.t (Ok c.in-Ok.at) c.in-Ok.ensures.position (λ i j le lt. rises c.args.tids.now i j c.requires le lt) in
-    sym (position_is c.args.t c.args.tids.now c.in-Ok.at c.requires s.0 s.1)
+less_up_to : (t last : ℕ) (tids : List ℕ) → Ascends tids → last < length tids → get_or tids last 0 < t → (k : ℕ) → k ≤ last → get_or tids k 0 < t
+less_up_to t last tids up within less k le = omega (arith, rises tids k last up le within, less)
 
-pub returns-in-Err : goal.returns-in-Err
-returns-in-Err c =
-    let at : ℕ = c.in-Err.field-0 in
-    let s : (at ≤ length c.args.tids.now) × ((k : ℕ) → k < at → get_or c.args.tids.now k 0 < c.args.t) × ((k : ℕ) → at ≤ k → k < length c.args.tids.now → c.args.t < get_or c.args.tids.now k 0) = searched c.args.tids.now c.args.t (Err at) c.in-Err.ensures.position (λ i j le lt. rises c.args.tids.now i j c.requires le lt) in
-    sym (position_between c.args.t c.args.tids.now at s.1 s.2)
+pub returns-then-tids-at : goal.returns-then-tids-at
+returns-then-tids-at c =
+    sym (position_is c.args.t c.args.tids.now (c.loop-at.at - 1) c.requires (omega (arith, c.loop-at-test.true, c.loop-at.invariant.0)) c.if-tids-at.true)
+
+pub returns-then-tids-at-2 : goal.returns-then-tids-at-2
+returns-then-tids-at-2 c =
+    let tids : List ℕ = c.args.tids.now in
+    let within : c.loop-at.at - 1 < length tids = omega (arith, c.loop-at-test.true, c.loop-at.invariant.0) in
+    sym (position_between c.args.t tids c.loop-at.at
+    (λ k lt. less_up_to c.args.t (c.loop-at.at - 1) tids c.requires within c.if-tids-at-2.true k (omega (arith, lt)))
+    c.loop-at.invariant.1)
