@@ -1,8 +1,10 @@
 //! The votes on all ACTs that ended, found by tid.
-ghost use Rattle.std.specs.Prelude.{◌≡◌, ◌++◌, [], ◌∷◌, None, option_copied, IfOk, OnOk, OnErr};
+ghost use Rattle.std.specs.Prelude.{◌≡◌, ◌<◌, ◌++◌, [], ◌∷◌, None, nat_eq, option_copied, IfOk, OnOk, OnErr};
+ghost use Rattle.std.specs.HashMap.{get};
 ghost use Rattle.protocol.specs.OnBook.{changed_act};
 ghost use Rattle.protocol.specs.Words.{act_of};
 ghost use Rattle.act_commit.specs.Changes.{change_of, MayChange};
+ghost use Rattle.act_commit.specs.Index.{IsIndex};
 
 use crate::vote::{Change, Vote};
 use snap_base::{Memory, Tid};
@@ -13,12 +15,17 @@ use std::marker::Model;
 /// So many ACTs end before room has to grow.
 const FIRST_ROOM: usize = 32;
 
+/// The places of so many ACTs are found with no hash.
+const AT_HAND: u64 = 64;
+
 /// The ACTs that ended, in the order in which they did.
 #[derive(Drop)]
 pub(crate) struct Votes {
     list: Vec<Vote>,
     /// Where each stands, by its tid.
     places: HashMap<u64, usize>,
+    /// Of the ACTs whose tids leave the same rest by `AT_HAND`, where the last one stands.
+    at_hand: [usize; AT_HAND as usize],
 }
 
 impl Model for Votes {
@@ -42,6 +49,7 @@ impl Votes {
         Ok(Votes {
             list: Vec::with_capacity(alloc, FIRST_ROOM)?,
             places: HashMap::with_capacity(alloc, FIRST_ROOM)?,
+            at_hand: [0; AT_HAND as usize],
         })
     }
 
@@ -54,6 +62,7 @@ impl Votes {
         let place = self.list.len();
         self.list.reserve(1)?;
         self.places.insert(vote.tid(), place)?;
+        self.at_hand[rest_of(vote.tid())] = place;
         let _pushed = self.list.push(vote);
         Ok(())
     }
@@ -62,8 +71,8 @@ impl Votes {
     pub fn get(&self, t: Tid) -> Option<&Vote>
         ensures { option_copied result ≡ act_of t.0 self.now }
     {
-        match self.places.get(&t.0) {
-            Some(place) => Some(&self.list[*place]),
+        match place_of(self.list.as_slice(), &self.places, &self.at_hand, t.0) {
+            Some(place) => Some(&self.list[place]),
             None => None,
         }
     }
@@ -73,9 +82,33 @@ impl Votes {
         requires { MayChange change (act_of t.0 self.old) }
         ensures { self.new ≡ changed_act t.0 (change_of change) self.old }
     {
-        match self.places.get(&t.0).copied() {
+        match place_of(self.list.as_slice(), &self.places, &self.at_hand, t.0) {
             Some(place) => self.list[place].change(change),
             None => {}
         }
+    }
+}
+
+/// The rest that a tid leaves.
+fn rest_of(t: u64) -> usize
+    ensures { result < 64 }
+{
+    (t % AT_HAND) as usize
+}
+
+/// The place of an ACT, by its tid.
+fn place_of(
+    list: &[Vote],
+    places: &HashMap<u64, usize>,
+    at_hand: &[usize; AT_HAND as usize],
+    t: u64,
+) -> Option<usize>
+    requires { IsIndex (get nat_eq places.now) list.now }
+    ensures { result ≡ get nat_eq places.now t }
+{
+    let place = at_hand[rest_of(t)];
+    match list.get(place) {
+        Some(vote) if vote.tid() == t => Some(place),
+        _ => places.get(&t).copied(),
     }
 }
