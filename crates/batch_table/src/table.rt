@@ -19,6 +19,9 @@ use crate::spots::Spot;
 use crate::{FoundPact, Stage};
 use snap_base::{ActorId, Bid, Tid, TxNo, TxResult};
 
+/// So many batches are looked at one by one, the last first, before all are searched.
+const LAST_FEW: usize = 16;
+
 /// The place of the batch with this number.
 pub(crate) fn place_of(batches: &[BatchEntry], base: u64, bid: Bid) -> Option<usize>
     requires { bids_of batches.now ≡ from (base + 1) (length batches.now) }
@@ -117,8 +120,24 @@ fn abort_all(batches: &mut [BatchEntry]) -> u32
     live
 }
 
-/// The place of the only batch that may have this tid: the last one whose first tid is not above it.
+/// The place of the only batch that may have this tid: the last one whose first tid is not above it. Mostly it is one of the last, as
+/// that of a live batch.
 fn place_of_tid(batches: &[BatchEntry], tid: Tid) -> Option<usize>
+    requires { TidsAscend 0 (batch_tids batches.now) }
+    ensures { MatchOption result (IsTidNowhere tid.0 batches.now) (λ i. IsPlaceOfTid tid.0 i batches.now) }
+{
+    let mut at = batches.len();
+    let first = at.saturating_sub(LAST_FEW);
+    while at > first {
+        at -= 1;
+        if batches[at].first_tid() <= tid.0 {
+            return Some(at);
+        }
+    }
+    place_among_all(batches, tid)
+}
+
+fn place_among_all(batches: &[BatchEntry], tid: Tid) -> Option<usize>
     requires { TidsAscend 0 (batch_tids batches.now) }
     ensures { MatchOption result (IsTidNowhere tid.0 batches.now) (λ i. IsPlaceOfTid tid.0 i batches.now) }
 {

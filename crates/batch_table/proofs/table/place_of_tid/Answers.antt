@@ -1,24 +1,16 @@
-use Rattle.std.proofs.Common.{◌≡◌, suc, ◌-◌, true, false, subst, arith, rules}
-use Rattle.std.specs.Prelude.{nat_le}
-use Rattle.std.specs.List.Sorted.{IsPartitionPoint}
-use Rattle.std.proofs.lemmas.List.Sorted.{IsPartitionPoint-from_clause}
+use Rattle.std.proofs.Common.{◌≡◌, ℕ, ◌<◌, ◌≤◌, ◌-◌, suc, List, subst, arith}
+use Rattle.std.specs.Prelude.{slice_index_or}
 use Rattle.protocol.specs.Parts.{Batch}
-use Rattle.batch_table.proofs.ByNumber.{no_batch}
-use Rattle.batch_table.proofs.ByTid.{first_tid, firsts_part, place_from_point, nowhere_from_point}
+use Rattle.batch_table.proofs.ByTid.{first_tid, tid_place}
 use Rattle.batch_table.proofs.table.place_of_tid.Goals as goal
 
-pub returns-then-count-eq0 : goal.returns-then-count-eq0
-returns-then-count-eq0 c =
-    let bs = c.args.batches.now in
-    let t = c.args.tid.0 in
-    let point = IsPartitionPoint-from_clause (λ (b : Batch). nat_le (first_tid b) t) bs c.partition_point-count.result c.partition_point-count.ensures.partitioned (firsts_part 0 t bs c.requires) (λ a r q k. search rules) in
-    nowhere_from_point t 0 bs c.requires (subst (λ n. IsPartitionPoint (λ (b : Batch). nat_le (first_tid b) t ≡ true) (λ (b : Batch). nat_le (first_tid b) t ≡ false) bs n) c.if-count-eq0.true point) no_batch
-
-pub returns-else-count-eq0 : goal.returns-else-count-eq0
-returns-else-count-eq0 c =
-    let bs = c.args.batches.now in
-    let t = c.args.tid.0 in
-    let point = IsPartitionPoint-from_clause (λ (b : Batch). nat_le (first_tid b) t) bs c.partition_point-count.result c.partition_point-count.ensures.partitioned (firsts_part 0 t bs c.requires) (λ a r q k. search rules) in
-    let n : c.partition_point-count.result ≡ suc (c.partition_point-count.result - 1) = omega arith in
-    place_from_point t 0 (c.partition_point-count.result - 1) bs c.requires (omega (arith, n, c.partition_point-count.ensures.bound))
-    (subst (λ n. IsPartitionPoint (λ (b : Batch). nat_le (first_tid b) t ≡ true) (λ (b : Batch). nat_le (first_tid b) t ≡ false) bs n) n point) no_batch
+pub returns-then-first_tid-tid : goal.returns-then-first_tid-tid
+returns-then-first_tid-tid c =
+    let bs : List Batch = c.args.batches.now in
+    let t : ℕ = c.args.tid.0 in
+    let last : ℕ = c.loop-at.at - 1 in
+    let d : Batch = c.index-batches-at.result in
+    let next : c.loop-at.at ≡ suc last = omega (arith, c.loop-at-test.true) in
+    tid_place t 0 last d bs c.requires (omega (arith, next, c.loop-at.invariant.0))
+    (subst (λ b. first_tid b ≤ t) c.index-batches-at.is (subst (λ n. n ≤ t) c.first_tid.ensures c.if-first_tid-tid.true))
+    (λ more. subst (λ n. t < first_tid (slice_index_or bs n d)) next (c.loop-at.invariant.1 d (omega (arith, next, more))))
