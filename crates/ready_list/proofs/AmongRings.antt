@@ -1,8 +1,8 @@
 -- Rings one behind the other: what is put into one of them, taken out of one, and found in them.
-use Rattle.std.specs.Prelude.{◌≡◌, refl, ℕ, zero, suc, ◌+◌, ◌-◌, ◌^◌, ◌<◌, ◌≤◌, min, ◌==◌, nat_lt, ◌&&◌, ◌||◌, Bool, true, false, if◌then◌else◌, List, [], ◌∷◌, ◌++◌, drop, filter, length, slice_get, slice_index_or}
+use Rattle.std.specs.Prelude.{◌≡◌, refl, ℕ, zero, suc, ◌+◌, ◌-◌, ◌^◌, ◌<◌, ◌≤◌, min, ◌==◌, nat_lt, ◌&&◌, ◌||◌, Bool, true, false, if◌then◌else◌, List, [], ◌∷◌, ◌++◌, drop, filter, length, slice_get, slice_index_or, take}
 use Rattle.std.proofs.Common.{arith, sym, ap, subst, inl, inr, ◌∙◌}
 use Rattle.std.proofs.lemmas.Bool.{cases_eq, cases_lt, or_left, or_right, lt-ltb, ltb-true, eq-eqb, ne_eqb}
-use Rattle.std.proofs.lemmas.List.{length-append, drop_more}
+use Rattle.std.proofs.lemmas.List.{append_assoc, length-append, drop_more}
 use Rattle.std.proofs.lemmas.List.Elements.{filter-append}
 use Rattle.protocol.specs.Events.{Event}
 use Rattle.protocol.specs.Schedule.{Rank, rank, is_rank_below, IsBelowEach}
@@ -208,6 +208,35 @@ got_here rings k n h l = ap (λ rs. slice_get (all_events rs) n) (drop_more ring
 
 pub got_behind : (rings : List RoomedRing) (k n m : ℕ) → k < length rings → n ≡ length (events_at rings k) + m → slice_get (all_events (drop k rings)) n ≡ slice_get (all_events (drop (k + 1) rings)) m
 got_behind rings k n m h l = ap (λ rs. slice_get (all_events rs) n) (drop_more rings k (record { events = []; spare = 0 }) h) ∙ got_more (events_at rings k) (all_events (drop (k + 1) rings)) n m l
+
+-- ---- the n-th, of the rings ahead of a place
+
+up_to_next : (rings : List RoomedRing) (k : ℕ) → k < length rings → all_events (take (suc k) rings) ≡ all_events (take k rings) ++ events_at rings k
+up_to_next [] k h = absurd (omega (arith, h))
+up_to_next (r ∷ rs) zero h = append_none r.events
+up_to_next (r ∷ rs) (suc k) h =
+    ap (λ es. r.events ++ es) (up_to_next rs k (omega (arith, h)))
+    ∙ sym (append_assoc r.events (all_events (take k rs)) (events_at rs k))
+
+-- so many of them stand behind it
+pub got_last : (rings : List RoomedRing) (k n left : ℕ) → k < length rings → n + left + 1 ≡ length (all_events (take (suc k) rings)) → left < length (events_at rings k)
+    → slice_get (all_events (take (suc k) rings)) n ≡ slice_get (events_at rings k) (length (events_at rings k) - 1 - left)
+got_last rings k n left h e l =
+    let front : List Event = all_events (take k rings) in
+    let here : List Event = events_at rings k in
+    let many : length (all_events (take (suc k) rings)) ≡ length front + length here = ap length (up_to_next rings k h) ∙ length-append front here in
+    let place : n ≡ length front + (length here - 1 - left) = omega (arith, e, many, l) in
+    ap (λ es. slice_get es n) (up_to_next rings k h)
+    ∙ ap (λ m. slice_get (front ++ here) m) place
+    ∙ got_more front here (length front + (length here - 1 - left)) (length here - 1 - left) refl
+
+pub got_ahead : (rings : List RoomedRing) (k n left : ℕ) → k < length rings → n + left + 1 ≡ length (all_events (take (suc k) rings)) → length (events_at rings k) ≤ left
+    → (n + (left - length (events_at rings k)) + 1 ≡ length (all_events (take k rings))) × (slice_get (all_events (take (suc k) rings)) n ≡ slice_get (all_events (take k rings)) n)
+got_ahead rings k n left h e l =
+    let front : List Event = all_events (take k rings) in
+    let here : List Event = events_at rings k in
+    let many : length (all_events (take (suc k) rings)) ≡ length front + length here = ap length (up_to_next rings k h) ∙ length-append front here in
+    (omega (arith, e, many, l), ap (λ es. slice_get es n) (up_to_next rings k h) ∙ got_first front here n (omega (arith, e, many, l)))
 
 -- ---- more room
 

@@ -103,3 +103,21 @@ both_tests p q (e ∷ es) = by (p e) refl (q e) refl (both_tests p q es)
     by true h true g more = rw (h, g, more) refl
     by true h false g more = rw (h, g, more) refl
     by false h c g more = rw (h, more) refl
+
+-- ---- none of them has the number
+
+-- the first that is not lower is higher
+pub none_found : (xs : List code.Event) (t start : ℕ) → IsNonDecreasingBy (λ f. first_of (event_meant f)) xs → start ≤ length xs
+    → IsPartitionPoint (λ f. first_of (event_meant f) < t) (λ f. t ≤ first_of (event_meant f)) xs start
+    → ((d : code.Event) → start < length xs → first_of (event_meant (slice_index_or xs start d)) ≡ t → ⊥) → [] ≡ filter (λ f. first_of f == t) (map event_meant xs)
+none_found xs t start up l lower other =
+    between xs t start 0 (omega (arith, l))
+    (λ k d a. lower.0 k d (omega (arith, a)) a)
+    (λ k d a b. absurd (omega (arith, a, b)))
+    (λ k d a b. higher k d (omega (arith, a)) b)
+  where
+    higher : (k : ℕ) (d : code.Event) → start ≤ k → k < length xs → t < first_of (event_meant (slice_index_or xs k d))
+    higher k d a b = elim (cases_lt t (first_of (event_meant (slice_index_or xs start d)))) [
+      | inl x ↦ omega (arith, x, up start k d a b)
+      | inr y ↦ absurd (other d (omega (arith, a, b)) (omega (arith, y, lower.1 start d (omega arith) (omega (arith, a, b)))))
+    ]

@@ -8,7 +8,7 @@ ghost use Rattle.ready_list.specs.Order.{first_of, kind_of, spare_of};
 
 use crate::kinds::{KIND_BOUND, kind_of};
 use crate::ring::Ring;
-use crate::rings::{next_from, nth_from, put_in, room_for, take_out};
+use crate::rings::{next_from, nth_from, nth_to, put_in, room_for, take_out};
 use core_events::Event;
 use snap_base::Memory;
 use std::alloc::Global;
@@ -59,11 +59,14 @@ impl ReadyList {
         self.count
     }
 
-    /// The n-th of them, from 0 on. `None` exactly where there are not so many.
+    /// The n-th of them, from 0 on. `None` exactly where there are not so many. It is counted from the end that is nearer.
     pub fn nth(&self, n: usize) -> Option<Event>
         ensures { option_map event_meant result ≡ slice_get self.now.events n }
     {
-        nth_from(self.kinds.as_slice(), self.first, n)
+        if n < self.count / 2 || n >= self.count {
+            return nth_from(self.kinds.as_slice(), self.first, n);
+        }
+        nth_to(self.kinds.as_slice(), self.count - 1 - n)
     }
 
     /// Those of this kind, in order, in two pieces, since they stand in a ring.

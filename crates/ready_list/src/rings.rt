@@ -1,5 +1,5 @@
 //! The rings of all kinds, in which the events of kind k stand at place k.
-ghost use Rattle.std.specs.Prelude.{◌≡◌, ◌+◌, ◌<◌, ◌≤◌, length, map, slice_get, Contains, OnErr, OnOk};
+ghost use Rattle.std.specs.Prelude.{◌≡◌, ◌+◌, ◌<◌, ◌≤◌, ℕ, length, map, slice_get, Contains, OnErr, OnOk};
 ghost use Rattle.std.specs.Option.{option_map};
 ghost use Rattle.core_events.specs.Meant.{event_meant};
 ghost use Rattle.protocol.specs.Events as machine;
@@ -24,6 +24,24 @@ pub(crate) fn nth_from(kinds: &[Ring], first: usize, n: usize) -> Option<Event>
         let count = ring.count();
         if left < count {
             return ring.nth(left);
+        }
+        left -= count;
+    }
+    None
+}
+
+/// The one of all events behind which so many stand. `None` exactly where there are not so many.
+pub(crate) fn nth_to(kinds: &[Ring], behind: usize) -> Option<Event>
+    ensures { (n : ℕ) → n + behind + 1 ≡ length (all_events kinds.now) → option_map event_meant result ≡ slice_get (all_events kinds.now) n }
+{
+    let mut left = behind;
+    let mut k = kinds.len();
+    while k > 0 {
+        k -= 1;
+        let ring = &kinds[k];
+        let count = ring.count();
+        if left < count {
+            return ring.nth(count - 1 - left);
         }
         left -= count;
     }
