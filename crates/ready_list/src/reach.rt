@@ -1,6 +1,6 @@
 //! Which events an event may refuse.
 
-ghost use Rattle.std.specs.Prelude.{◌≡◌};
+ghost use Rattle.std.specs.Prelude.{◌≡◌, ◌&&◌};
 ghost use Rattle.core_events.specs.Meant.{event_meant};
 ghost use Rattle.protocol.specs.Events as machine;
 ghost use Rattle.protocol_ready.specs.Refusing.{may_refuse};
@@ -174,9 +174,10 @@ impl Reach {
     pub fn may_refuse(&self, f: Event) -> bool
         ensures { result ≡ may_refuse (event_meant self.now.event) (event_meant f) }
     {
-        is_among(self.wholly, f)
-            || (is_among(self.on_actor, f) && self.actor == place_of(f).second)
-            || (is_among(self.numbered, f) && self.number == place_of(f).first)
+        let place = place_of(f);
+        let on_actor = is_among_if(self.actor == place.second, self.on_actor, f);
+        let numbered = is_among_if(self.number == place.first, self.numbered, f);
+        is_among(self.wholly, f) | (on_actor | numbered)
     }
 }
 
@@ -184,6 +185,13 @@ fn is_among(kinds: &[u8], f: Event) -> bool
     ensures { result ≡ is_among kinds.now (event_meant f) }
 {
     kinds.contains(&kind_of(f))
+}
+
+// Whether it is of one of these kinds, and a test holds, which costs less.
+fn is_among_if(test: bool, kinds: &[u8], f: Event) -> bool
+    ensures { result ≡ (is_among kinds.now (event_meant f) && test) }
+{
+    test && is_among(kinds, f)
 }
 
 // What an event reaches, by its kinds.
