@@ -1,5 +1,5 @@
 -- What each part lists is among what is listed by the event.
-use Rattle.std.specs.Prelude.{◌≡◌, refl, ℕ, zero, suc, Bool, true, false, Option, Some, List, [], ◌∷◌, ◌++◌, slice_get, Contains}
+use Rattle.std.specs.Prelude.{◌≡◌, refl, ℕ, zero, suc, Bool, true, false, Option, Some, List, [], ◌∷◌, ◌++◌, map, slice_get, Contains}
 use Rattle.std.specs.List.{flat_map}
 use Rattle.std.proofs.Common.{inl, inr, sym, subst, append-nil}
 use Rattle.std.proofs.lemmas.List.Elements.{Contains-append_left, Contains-append_right, Contains-append_cases}
@@ -11,14 +11,15 @@ use Rattle.protocol.specs.Parts.{Book, Desk, Post, Ring}
 use Rattle.protocol_ready.proofs.Listing.{to_has}
 use Rattle.snap_base.specs.declared.ids.Bid.{Bid}
 use Rattle.snap_hand.specs.Hands.{Parts}
-use Rattle.ready_news.specs.ByEvent.{in_a_row, listed, lists, of_all_gone, of_all_gone_if, of_gone, with_more}
+use Rattle.ready_news.specs.ByEvent.{aborted_lists, at_actor, listed, lists, of_all_gone, of_all_gone_if, of_gone, of_look}
 use Rattle.ready_news.specs.GivenUp.{given_up_by, given_up_if, given_up_tids, may_have_acts}
 use Rattle.ready_news.specs.InAnswers.{answers_listed, of_acts_with, of_batches, of_over, of_tx}
 use Rattle.ready_news.specs.InBook.{book_listed, leaving_of}
-use Rattle.ready_news.specs.InCells.{cells_listed}
+use Rattle.ready_news.specs.InCells.{cells_listed, closes_behind}
 use Rattle.ready_news.specs.InDesk.{by_desk, next_ends, trims_of}
-use Rattle.ready_news.specs.InPost.{of_drop, of_drops_with, of_post, of_sent, post_listed}
-use Rattle.ready_news.specs.InRing.{forms_any, logs_listed, ring_listed}
+use Rattle.ready_news.specs.InPost.{arrived_listed, of_drop, of_drops_with, of_post, of_sent, post_listed}
+use Rattle.ready_news.specs.InRing.{admits_any, forms_any, logs_listed, ring_listed}
+use Rattle.ready_news.specs.Looks.{looks_of, names_of}
 use Rattle.ready_news.proofs.Common.{Among}
 
 -- nothing is there
@@ -58,15 +59,10 @@ module _ (b : Book) where
 
 -- ---- one of several lists
 
-part_in : (yss : List (List Event)) (ys : List Event) (n : ℕ) (xs : List Event) → slice_get (ys ∷ yss) n ≡ Some xs → Among xs (with_more ys yss)
-part_in [] ys zero xs e f i = subst (λ v. Contains v f) (sym (same_Some ys xs e)) i
-part_in [] ys (suc n) xs e f i = absurd (cc e)
-part_in (zs ∷ zss) ys zero xs e f i = Contains-append_left ys (with_more zs zss) f (subst (λ v. Contains v f) (sym (same_Some ys xs e)) i)
-part_in (zs ∷ zss) ys (suc n) xs e f i = Contains-append_right ys (with_more zs zss) f (part_in zss zs n xs e f i)
-
-one_in : (xss : List (List Event)) (n : ℕ) (xs : List Event) → slice_get xss n ≡ Some xs → Among xs (in_a_row xss)
-one_in [] n xs e f i = absurd (cc e)
-one_in (ys ∷ yss) n xs e f i = part_in yss ys n xs e f i
+one_in : {A : Type 0} (f : A → List Event) (ls : List A) (n : ℕ) (xs : List Event) → slice_get (map f ls) n ≡ Some xs → Among xs (flat_map f ls)
+one_in f [] n xs e g i = absurd (cc e)
+one_in f (a ∷ ls) zero xs e g i = Contains-append_left (f a) (flat_map f ls) g (subst (λ v. Contains v g) (sym (same_Some (f a) xs e)) i)
+one_in f (a ∷ ls) (suc n) xs e g i = Contains-append_right (f a) (flat_map f ls) g (one_in f ls n xs e g i)
 
 -- ---- part by part
 
@@ -76,16 +72,39 @@ module _ (w : Text) (h : Parts) (next : Option Bid) (r : Ring) (b : Book) (p : P
 
   -- the list of this number
   nth : (e : Event) (n : ℕ) (xs : List Event) → slice_get (lists w h next r b p d e) n ≡ Some xs → Among xs (all e)
-  nth e n xs is = one_in (lists w h next r b p d e) n xs is
+  nth e n xs is = one_in (of_look w h next r b p d (names_of e)) (looks_of e) n xs is
+
+  -- of the lists that are listed where batch k is aborted, the one of this number
+  nth_aborted : (k n : ℕ) (xs : List Event) → slice_get (map (λ ys. ys) (aborted_lists w h r b p d k)) n ≡ Some xs → Among xs (all (Abort k))
+  nth_aborted k n xs is f i = nth (Abort k) 0 (flat_map (λ ys. ys) (aborted_lists w h r b p d k)) refl f (one_in (λ ys. ys) (aborted_lists w h r b p d k) n xs is f i)
+
+  -- both parts of what is listed where batch k has arrived at actor a, of what is listed of those that fell there, and where a PACT ended
+  here_in : (k a : ℕ) → Among (at_actor (Arrive k a) a h) (all (Arrive k a))
+  here_in k a f i = nth (Arrive k a) 0 (at_actor (Arrive k a) a h ++ arrived_listed k a h.cells p) refl f (Contains-append_left (at_actor (Arrive k a) a h) (arrived_listed k a h.cells p) f i)
+
+  there_in : (k a : ℕ) → Among (arrived_listed k a h.cells p) (all (Arrive k a))
+  there_in k a f i = nth (Arrive k a) 0 (at_actor (Arrive k a) a h ++ arrived_listed k a h.cells p) refl f (Contains-append_right (at_actor (Arrive k a) a h) (arrived_listed k a h.cells p) f i)
+
+  admits_in : (k a : ℕ) → Among (admits_any w b r) (all (Arrive k a))
+  admits_in k a f i = nth (Arrive k a) 1 (admits_any w b r ++ of_all_gone_if (may_have_acts (slice_get h.cells a)) b) refl f (Contains-append_left (admits_any w b r) (of_all_gone_if (may_have_acts (slice_get h.cells a)) b) f i)
+
+  fallen_in : (k a : ℕ) → Among (of_all_gone_if (may_have_acts (slice_get h.cells a)) b) (all (Arrive k a))
+  fallen_in k a f i = nth (Arrive k a) 1 (admits_any w b r ++ of_all_gone_if (may_have_acts (slice_get h.cells a)) b) refl f (Contains-append_right (admits_any w b r) (of_all_gone_if (may_have_acts (slice_get h.cells a)) b) f i)
+
+  closes_in : (t a : ℕ) → Among (closes_behind w t h.desk h) (all (End t a))
+  closes_in t a f i = nth (End t a) 0 (closes_behind w t h.desk h ++ next_ends d next) refl f (Contains-append_left (closes_behind w t h.desk h) (next_ends d next) f i)
+
+  ends_in : (t a : ℕ) → Among (next_ends d next) (all (End t a))
+  ends_in t a f i = nth (End t a) 0 (closes_behind w t h.desk h ++ next_ends d next) refl f (Contains-append_right (closes_behind w t h.desk h) (next_ends d next) f i)
 
   pub ring_in : (e : Event) → Among (ring_listed e w d b r) (all e)
   ring_in (Submit n) = nth (Submit n) 0 (ring_listed (Submit n) w d b r) refl
   ring_in (Pass c) = nth (Pass c) 0 (ring_listed (Pass c) w d b r) refl
   ring_in (Form k) = nth (Form k) 3 (ring_listed (Form k) w d b r) refl
   ring_in (Admit t) = nth (Admit t) 1 (ring_listed (Admit t) w d b r) refl
-  ring_in (Arrive k a) = nth (Arrive k a) 2 (ring_listed (Arrive k a) w d b r) refl
+  ring_in (Arrive k a) = admits_in k a
   ring_in (Ask t a) = nth (Ask t a) 1 (ring_listed (Ask t a) w d b r) refl
-  ring_in (Abort k) = nth (Abort k) 0 (ring_listed (Abort k) w d b r) refl
+  ring_in (Abort k) = nth_aborted k 0 (ring_listed (Abort k) w d b r) refl
   ring_in (Decide t) = nth (Decide t) 1 (ring_listed (Decide t) w d b r) refl
   ring_in (Seal t) = nth (Seal t) 0 (ring_listed (Seal t) w d b r) refl
   ring_in (Finish t a) = nth (Finish t a) 2 (ring_listed (Finish t a) w d b r) refl
@@ -93,14 +112,14 @@ module _ (w : Text) (h : Parts) (next : Option Bid) (r : Ring) (b : Book) (p : P
   ring_in e = none (all e)
 
   pub cells_in : (e : Event) → Among (cells_listed w e h) (all e)
-  cells_in (Arrive k a) = nth (Arrive k a) 0 (cells_listed w (Arrive k a) h) refl
+  cells_in (Arrive k a) = here_in k a
   cells_in (Ask t a) = nth (Ask t a) 0 (cells_listed w (Ask t a) h) refl
   cells_in (Take t a) = nth (Take t a) 0 (cells_listed w (Take t a) h) refl
   cells_in (Run t a) = nth (Run t a) 0 (cells_listed w (Run t a) h) refl
-  cells_in (End t a) = nth (End t a) 0 (cells_listed w (End t a) h) refl
+  cells_in (End t a) = closes_in t a
   cells_in (Close t a) = nth (Close t a) 0 (cells_listed w (Close t a) h) refl
   cells_in (Complete k a) = nth (Complete k a) 0 (cells_listed w (Complete k a) h) refl
-  cells_in (Abort k) = nth (Abort k) 1 (cells_listed w (Abort k) h) refl
+  cells_in (Abort k) = nth_aborted k 1 (cells_listed w (Abort k) h) refl
   cells_in (Rollback a) = nth (Rollback a) 0 (cells_listed w (Rollback a) h) refl
   cells_in (Finish t a) = nth (Finish t a) 0 (cells_listed w (Finish t a) h) refl
   cells_in (Trim k a) = nth (Trim k a) 0 (cells_listed w (Trim k a) h) refl
@@ -116,8 +135,8 @@ module _ (w : Text) (h : Parts) (next : Option Bid) (r : Ring) (b : Book) (p : P
 
   of_post_in : (e : Event) → Among (of_post e h.cells d p) (all e)
   of_post_in (Form k) = nth (Form k) 0 (of_post (Form k) h.cells d p) refl
-  of_post_in (Arrive k a) = nth (Arrive k a) 1 (of_post (Arrive k a) h.cells d p) refl
-  of_post_in (Abort k) = nth (Abort k) 2 (of_post (Abort k) h.cells d p) refl
+  of_post_in (Arrive k a) = there_in k a
+  of_post_in (Abort k) = nth_aborted k 2 (of_post (Abort k) h.cells d p) refl
   of_post_in (Rollback a) = nth (Rollback a) 1 (of_post (Rollback a) h.cells d p) refl
   of_post_in (Finish t a) = nth (Finish t a) 1 (of_post (Finish t a) h.cells d p) refl
   of_post_in e = none (all e)
@@ -128,7 +147,7 @@ module _ (w : Text) (h : Parts) (next : Option Bid) (r : Ring) (b : Book) (p : P
   of_sent_in e = none (all e)
 
   of_drops_in : (e : Event) → Among (of_drops_with e (given_up_by e h.cells b)) (all e)
-  of_drops_in (Arrive k a) = λ f i. nth (Arrive k a) 3 (of_all_gone_if (may_have_acts (slice_get h.cells a)) b) refl f (gone_if_in b of_drop (drop_in b) (may_have_acts (slice_get h.cells a)) f i)
+  of_drops_in (Arrive k a) = λ f i. fallen_in k a f (gone_if_in b of_drop (drop_in b) (may_have_acts (slice_get h.cells a)) f i)
   of_drops_in (Ask t a) = λ f i. nth (Ask t a) 3 (of_all_gone b) refl f (gone_in b of_drop (drop_in b) f i)
   of_drops_in e = none (all e)
 
@@ -137,19 +156,19 @@ module _ (w : Text) (h : Parts) (next : Option Bid) (r : Ring) (b : Book) (p : P
 
   pub desk_in : (e : Event) → Among (by_desk next d e) (all e)
   desk_in (Form k) = nth (Form k) 2 (by_desk next d (Form k)) refl
-  desk_in (End t a) = nth (End t a) 1 (by_desk next d (End t a)) refl
+  desk_in (End t a) = ends_in t a
   desk_in (Note k a) = nth (Note k a) 0 (by_desk next d (Note k a)) refl
   desk_in (Commit k) = nth (Commit k) 0 (by_desk next d (Commit k)) refl
   desk_in (Settle k) = both_in (trims_of d k) (next_ends d next) (all (Settle k)) (nth (Settle k) 0 (trims_of d k) refl) (nth (Settle k) 1 (next_ends d next) refl)
-  desk_in (Abort k) = nth (Abort k) 3 (by_desk next d (Abort k)) refl
+  desk_in (Abort k) = nth_aborted k 3 (by_desk next d (Abort k)) refl
   desk_in e = none (all e)
 
   pub book_in : (e : Event) → Among (book_listed e h.cells b) (all e)
-  book_in (Arrive k a) = λ f i. nth (Arrive k a) 3 (of_all_gone_if (may_have_acts (slice_get h.cells a)) b) refl f (gone_if_in b (leaving_of b) (leaving_in b) (may_have_acts (slice_get h.cells a)) f i)
+  book_in (Arrive k a) = λ f i. fallen_in k a f (gone_if_in b (leaving_of b) (leaving_in b) (may_have_acts (slice_get h.cells a)) f i)
   book_in (Ask t a) = λ f i. nth (Ask t a) 3 (of_all_gone b) refl f (gone_in b (leaving_of b) (leaving_in b) f i)
-  book_in (End t a) = nth (End t a) 2 (book_listed (End t a) h.cells b) refl
+  book_in (End t a) = nth (End t a) 1 (book_listed (End t a) h.cells b) refl
   book_in (Settle k) = nth (Settle k) 3 (book_listed (Settle k) h.cells b) refl
-  book_in (Abort k) = λ f i. nth (Abort k) 5 (of_all_gone b) refl f (gone_in b (leaving_of b) (leaving_in b) f i)
+  book_in (Abort k) = λ f i. nth_aborted k 5 (of_all_gone b) refl f (gone_in b (leaving_of b) (leaving_in b) f i)
   book_in (Vouch t a) = nth (Vouch t a) 0 (book_listed (Vouch t a) h.cells b) refl
   book_in (Decide t) = nth (Decide t) 2 (book_listed (Decide t) h.cells b) refl
   book_in (Seal t) = nth (Seal t) 1 (book_listed (Seal t) h.cells b) refl
@@ -157,14 +176,14 @@ module _ (w : Text) (h : Parts) (next : Option Bid) (r : Ring) (b : Book) (p : P
 
   of_batches_in : (e : Event) → Among (of_batches r.next_bid d e) (all e)
   of_batches_in (Settle k) = nth (Settle k) 2 (of_batches r.next_bid d (Settle k)) refl
-  of_batches_in (Abort k) = nth (Abort k) 4 (of_batches r.next_bid d (Abort k)) refl
+  of_batches_in (Abort k) = nth_aborted k 4 (of_batches r.next_bid d (Abort k)) refl
   of_batches_in e = none (all e)
 
   of_acts_in : (e : Event) → Among (of_acts_with b e (given_up_by e h.cells b)) (all e)
-  of_acts_in (Arrive k a) = λ f i. nth (Arrive k a) 3 (of_all_gone_if (may_have_acts (slice_get h.cells a)) b) refl f (gone_if_in b (of_tx b) (tx_in b) (may_have_acts (slice_get h.cells a)) f i)
+  of_acts_in (Arrive k a) = λ f i. fallen_in k a f (gone_if_in b (of_tx b) (tx_in b) (may_have_acts (slice_get h.cells a)) f i)
   of_acts_in (Ask t a) = both_in (of_over b t) (flat_map (of_tx b) (given_up_tids b)) (all (Ask t a)) (nth (Ask t a) 2 (of_over b t) refl) (λ f i. nth (Ask t a) 3 (of_all_gone b) refl f (gone_in b (of_tx b) (tx_in b) f i))
-  of_acts_in (End t a) = nth (End t a) 3 (of_acts_with b (End t a) (given_up_by (End t a) h.cells b)) refl
-  of_acts_in (Abort k) = λ f i. nth (Abort k) 5 (of_all_gone b) refl f (gone_in b (of_tx b) (tx_in b) f i)
+  of_acts_in (End t a) = nth (End t a) 2 (of_acts_with b (End t a) (given_up_by (End t a) h.cells b)) refl
+  of_acts_in (Abort k) = λ f i. nth_aborted k 5 (of_all_gone b) refl f (gone_in b (of_tx b) (tx_in b) f i)
   of_acts_in (Decide t) = nth (Decide t) 3 (of_acts_with b (Decide t) (given_up_by (Decide t) h.cells b)) refl
   of_acts_in (Seal t) = nth (Seal t) 2 (of_acts_with b (Seal t) (given_up_by (Seal t) h.cells b)) refl
   of_acts_in e = none (all e)

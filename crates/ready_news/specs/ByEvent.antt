@@ -1,9 +1,9 @@
--- What is listed after an event, by the event: whatever it made allowed is among it.
-use Rattle.std.specs.Prelude.{ℕ, Bool, true, false, Option, List, [], ◌∷◌, ◌++◌, length, slice_get}
+-- What is listed after an event, look by look: whatever it made allowed is among it.
+use Rattle.std.specs.Prelude.{ℕ, Bool, true, false, Option, List, [], ◌∷◌, ◌++◌, length, map, slice_get}
 use Rattle.std.specs.List.{flat_map}
 use Rattle.aml_slice.specs.Controls.{Rest}
 use Rattle.book_part.specs.Listed.{live_tids}
-use Rattle.protocol.specs.Events.{Event, Submit, Pass, Form, Admit, Arrive, Ask, Take, Run, Send, End, Close, Complete, Note, Commit, Settle, Abort, Rollback, DropControl, Prepare, Vouch, Decide, Seal, Finish, Trim}
+use Rattle.protocol.specs.Events.{Event, Arrive, Ask, DropControl, Run, Settle}
 use Rattle.protocol.specs.Fixed.{Text}
 use Rattle.protocol.specs.Parts.{Book, Desk, Post, Ring}
 use Rattle.protocol.specs.Words.{below}
@@ -13,10 +13,14 @@ use Rattle.snap_hand.specs.Hands.{Parts}
 use Rattle.ready_news.specs.GivenUp.{given_up_tids, may_have_acts}
 use Rattle.ready_news.specs.InAnswers.{of_later, of_over, of_tx, of_txs}
 use Rattle.ready_news.specs.InBook.{deciding_of, leaving_of, only, preparing_of}
-use Rattle.ready_news.specs.InCells.{closes_behind, of_shown, on_changed}
+use Rattle.ready_news.specs.InCells.{closes_behind, of_shown, on_changed, wakes}
 use Rattle.ready_news.specs.InDesk.{commit_of, next_ends, trims_of}
 use Rattle.ready_news.specs.InPost.{all_to, arrived_listed, formed_listed, goes_to, on_control}
 use Rattle.ready_news.specs.InRing.{added_to, admits_any, all_next, forms_any, passes, submitted_listed}
+use Rattle.ready_news.specs.Looks.{looks_of, names_of}
+use Rattle.ready_news.specs.declared.looks.Look.{Look}
+use Rattle.ready_news.specs.declared.looks.Look.TheVariants.{Aborted, ActEnded, ActLog, ActorLog, Admitted, Again, Answers, Arrived, Back, BatchLog, Coming, Committed, Control, Deciding, Decisions, Fallen, Formed, GivenUp, Leaving, Next, NextAct, NextBatch, NextEnds, Noted, Over, PactEnded, Placed, Sliced, Submitted, Trimmed, Trims, Woken}
+use Rattle.ready_news.specs.declared.looks.Names.{Names}
 
 -- ---- of an ACT that is given up: its control may be dropped, it may leave its actors, and its reply is due
 
@@ -36,44 +40,54 @@ of_all_gone_if false b = []
 abbrev pub at_actor : Event → ℕ → Parts → List Event
 at_actor e a h = of_shown (on_changed e h.desk a) (slice_get h.cells a)
 
--- ---- lists one behind the other
+-- ---- of all that waits, where batch k and those behind it are aborted
 
-abbrev pub with_more : List Event → List (List Event) → List Event
-with_more xs [] = xs
-with_more xs (ys ∷ yss) = xs ++ with_more ys yss
+module _ (w : Text) (h : Parts) (r : Ring) (b : Book) (p : Post Rest) (d : Desk) where
+  abbrev pub aborted_lists : ℕ → List (List Event)
+  aborted_lists k = on_ring w.coordinators r ∷ flat_map (on_place h) (below (length h.cells)) ∷ on_post p ∷ on_desk d ∷ of_later k r.next_bid d ∷ of_all_gone b ∷ []
 
-abbrev pub in_a_row : List (List Event) → List Event
-in_a_row [] = []
-in_a_row (xs ∷ xss) = with_more xs xss
-
--- ---- by the event, where the parts at hand are these, and this batch is the next to end
+-- ---- by the look, where the parts at hand are these, and this batch is the next to end
 
 module _ (w : Text) (h : Parts) (next : Option Bid) (r : Ring) (b : Book) (p : Post Rest) (d : Desk) where
+  -- about these names
+  module _ (c : Names) where
+    abbrev pub of_look : Look → List Event
+    of_look Submitted = submitted_listed c.tx.0 w d b r
+    of_look Next = all_next w d b r
+    of_look Admitted = passes w.coordinators r ++ admits_any w b r
+    of_look NextBatch = forms_any w d r
+    of_look NextAct = admits_any w b r
+    of_look BatchLog = added_to w.logs h.logs c.batch.0
+    of_look ActLog = added_to w.logs h.logs c.tid.0
+    of_look ActorLog = added_to w.logs h.logs c.actor.0
+    of_look Formed = formed_listed c.batch.0 d
+    of_look Control = on_control c.tid.0 h.cells b p
+    of_look Again = only (goes_to c.tid.0 c.actor.0 p) (Ask c.tid.0 c.actor.0)
+    of_look Coming = all_to c.actor.0 p
+    of_look Arrived = at_actor (Arrive c.batch.0 c.actor.0) c.actor.0 h ++ arrived_listed c.batch.0 c.actor.0 h.cells p
+    of_look Fallen = admits_any w b r ++ of_all_gone_if (may_have_acts (slice_get h.cells c.actor.0)) b
+    of_look Placed = Run c.tid.0 c.actor.0 ∷ []
+    of_look Sliced = at_actor (Run c.tid.0 c.actor.0) c.actor.0 h
+    of_look Woken = of_shown (wakes c.actor.0) (slice_get h.cells c.actor.0)
+    of_look Trimmed = of_shown (wakes c.actor.0) (slice_get h.cells c.actor.0)
+    of_look Back = on_place h c.actor.0
+    of_look PactEnded = closes_behind w c.tid.0 h.desk h ++ next_ends d next
+    of_look NextEnds = next_ends d next
+    of_look Noted = commit_of d c.batch.0
+    of_look Committed = Settle c.batch.0 ∷ []
+    of_look Trims = trims_of d c.batch.0
+    of_look Answers = of_txs d c.batch.0
+    of_look Aborted = flat_map (λ xs. xs) (aborted_lists w h r b p d c.batch.0)
+    of_look ActEnded = deciding_of b c.tid.0 ++ preparing_of b c.tid.0
+    of_look Deciding = deciding_of b c.tid.0
+    of_look Decisions = flat_map (deciding_of b) (live_tids b)
+    of_look Leaving = leaving_of b c.tid.0
+    of_look Over = of_over b c.tid.0
+    of_look GivenUp = of_all_gone b
+
+  -- by the event
   abbrev pub lists : Event → List (List Event)
-  lists (Submit n) = submitted_listed n w d b r ∷ []
-  lists (Pass c) = all_next w d b r ∷ []
-  lists (Form k) = formed_listed k d ∷ added_to w.logs h.logs k ∷ next_ends d next ∷ all_next w d b r ∷ []
-  lists (Admit t) = on_control t h.cells b p ∷ (passes w.coordinators r ++ admits_any w b r) ∷ []
-  lists (Arrive k a) = at_actor (Arrive k a) a h ∷ arrived_listed k a h.cells p ∷ admits_any w b r ∷ of_all_gone_if (may_have_acts (slice_get h.cells a)) b ∷ []
-  lists (Ask t a) = (Run t a ∷ []) ∷ admits_any w b r ∷ of_over b t ∷ of_all_gone b ∷ []
-  lists (Take t a) = (Run t a ∷ []) ∷ []
-  lists (Run t a) = at_actor (Run t a) a h ∷ []
-  lists (Send t a) = on_control t h.cells b p ∷ []
-  lists (End t a) = closes_behind w t h.desk h ∷ next_ends d next ∷ (deciding_of b t ++ preparing_of b t) ∷ of_over b t ∷ []
-  lists (Close t a) = at_actor (Close t a) a h ∷ []
-  lists (Complete k a) = at_actor (Complete k a) a h ∷ added_to w.logs h.logs a ∷ []
-  lists (Note k a) = commit_of d k ∷ []
-  lists (Commit k) = (Settle k ∷ []) ∷ added_to w.logs h.logs k ∷ []
-  lists (Settle k) = trims_of d k ∷ next_ends d next ∷ of_txs d k ∷ flat_map (deciding_of b) (live_tids b) ∷ []
-  lists (Abort k) = on_ring w.coordinators r ∷ flat_map (on_place h) (below (length h.cells)) ∷ on_post p ∷ on_desk d ∷ of_later k r.next_bid d ∷ of_all_gone b ∷ []
-  lists (Rollback a) = on_place h a ∷ all_to a p ∷ []
-  lists (Prepare t a) = added_to w.logs h.logs a ∷ []
-  lists (Vouch t a) = deciding_of b t ∷ []
-  lists (Decide t) = added_to w.logs h.logs t ∷ admits_any w b r ∷ leaving_of b t ∷ of_over b t ∷ []
-  lists (Seal t) = admits_any w b r ∷ leaving_of b t ∷ of_over b t ∷ []
-  lists (Finish t a) = at_actor (Finish t a) a h ∷ only (goes_to t a p) (Ask t a) ∷ admits_any w b r ∷ []
-  lists (Trim k a) = at_actor (Trim k a) a h ∷ forms_any w d r ∷ []
-  lists _ = []
+  lists e = map (of_look (names_of e)) (looks_of e)
 
   abbrev pub listed : Event → List Event
-  listed e = in_a_row (lists e)
+  listed e = flat_map (of_look (names_of e)) (looks_of e)

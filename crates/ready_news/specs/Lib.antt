@@ -7,5 +7,6 @@ pub mod InAnswers
 pub mod InRing
 pub mod InPost
 pub mod InCells
+pub mod Looks
 pub mod ByEvent
 pub use Rattle.ready_listing.specs as ready_listing

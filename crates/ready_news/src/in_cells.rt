@@ -219,6 +219,22 @@ pub(crate) fn list_at(
     list_changed(alloc, hand, hand.cell(a), e, a, events)
 }
 
+/// What may go on at an actor, where there is one.
+pub(crate) fn list_woken(
+    alloc: Global,
+    hand: &Hand,
+    a: ActorId,
+    events: &mut Vec<Event>,
+) -> Result<(), Memory>
+    requires { IsWhole hand.now }
+    ensures { OnOk result (Adds events.old.items events.new.items (of_shown (wakes a.0) (slice_get hand.now.cells a.0))) }
+{
+    if !hand.has_actor(a) {
+        return Ok(());
+    }
+    list_wakes(alloc, hand.cell(a), a, events)
+}
+
 /// Whether a PACT owes an actor something still; not where there is no such actor.
 fn owes(hand: &Hand, t: Tid, a: ActorId) -> bool
     requires { IsWhole hand.now }

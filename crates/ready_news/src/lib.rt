@@ -14,6 +14,7 @@ mod in_desk;
 mod in_post;
 mod in_ring;
 mod laws;
+mod looks;
 mod touching;
 
 pub use foreseeing::foreseen;
@@ -21,4 +22,5 @@ pub use laws::{
     answers_are_told, book_is_told, cells_are_told, desk_is_told, logs_are_told, post_is_told,
     ring_is_told,
 };
+pub use looks::{Look, Names, looks_of, names_of};
 pub use touching::touched;
