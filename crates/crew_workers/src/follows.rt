@@ -1,9 +1,11 @@
-//! What an event may have made allowed, as far as its own parts tell. A guess: each is asked for before it is done, and a look finds the
-//! others.
+//! What an event may have made allowed, look by look, as far as the parts at hand tell. A guess: each is asked for before it is done,
+//! and a look at the parts finds the others.
 ghost use Rattle.snap_hand.specs.Tables.{AreTables};
 
+use crate::finds::Finds;
 use core_events::{BOOK, DESK, Event, POST, RING, part_of_log};
 use ready_listing::{list_place, next_holder, push_one};
+use ready_news::{Look, Names, looks_of, names_of};
 use snap_base::{ActorId, Bid, Memory, Tid, TxNo, Who};
 use snap_hand::{BookPart, CellPart, Control, Desk, Hand, Post, Ring, Tables};
 use snap_work::MOST_BATCHES;
@@ -23,42 +25,64 @@ pub(crate) struct AtHand<'a> {
     pub long: bool,
 }
 
-/// Lists what the event, which was done with these parts at hand, may have made allowed. `Memory` leaves some of it. Each event is
-/// named here, so that a new one does not compile before it is thought of.
-pub(crate) fn list_follows(at: &AtHand, e: Event, events: &mut Vec<Event>) -> Result<(), Memory>
+/// Puts to the news what the event, which was done with these parts at hand, may have made allowed, and marks what they do not tell.
+/// For want of memory some of it is left out.
+pub(crate) fn follow(at: &AtHand, e: Event, finds: &mut Finds)
     requires { AreTables at.now.tables.now }
 {
-    match e {
-        // By the ring.
-        Event::Submit(n) => list_submit(at, n, events),
-        Event::Pass(_) => list_ring(at, events),
-        Event::Form(k) => list_formed(at, k, events),
-        Event::Admit(t) => list_admitted(at, t, events),
-        // On an actor.
-        Event::Arrive(k, a) => list_arrived(at, k, a, events),
-        Event::Ask(t, a) => list_asked(at, t, a, events),
-        Event::Take(t, a) => push_one(events, Event::Run(t, a)),
-        Event::Run(t, a) => list_outcome(at, t, a, events),
-        Event::Send(t, _) => list_control(at.hand, t, events),
-        Event::End(t, a) => list_ended(at, t, a, events),
-        Event::Close(_, a) | Event::Complete(_, a) | Event::Finish(_, a) => {
-            list_wakes(at, a, events)
+    let names = names_of(e);
+    for look in looks_of(e) {
+        let _all = follow_look(at, &names, *look, finds);
+    }
+}
+
+/// What may be allowed at a look, which is about these names, of an event behind which these parts are at hand. `Memory` leaves some of it.
+fn follow_look(at: &AtHand, names: &Names, look: Look, finds: &mut Finds) -> Result<(), Memory>
+    requires { AreTables at.now.tables.now }
+{
+    let news = &mut finds.news;
+    match look {
+        Look::Submitted => list_submit(at, names.tx, news),
+        Look::Next => list_ring(at, news),
+        Look::Admitted => list_admitted(at, news),
+        Look::NextAct => {
+            if frees_place(at) {
+                finds.mark_ring();
+            }
+            Ok(())
         }
-        Event::Prepare(_, _) => Ok(()),
-        Event::Rollback(a) => list_back(at, a, events),
-        // Of a batch.
-        Event::Note(k, _) => list_noted(at.hand, k, events),
-        Event::Commit(k) => list_committed(at.tables, k, events),
-        Event::Settle(k) => list_settled(at, k, events),
-        Event::Trim(k, _) => list_gone(at, k, events),
-        Event::AbortBatch(k) => list_aborted(at, k, events),
-        Event::DropSub(_, _) => Ok(()),
-        // Of an ACT.
-        Event::Vouch(t, _) => list_vouched(at.hand, t, events),
-        Event::Decide(t) | Event::Seal(t) => list_leaving(at, t, events),
-        Event::DropControl(_) => Ok(()),
-        // To the outside. What a Sync makes allowed is listed ahead of it.
-        Event::Sync(_) | Event::Reply(_) => Ok(()),
+        Look::Formed => list_formed(at, names.batch, news),
+        Look::Control => list_control(at.hand, names.tid, news),
+        Look::Arrived => list_arrived(at, names.batch, names.actor, news),
+        Look::Placed => push_one(news, Event::Run(names.tid, names.actor)),
+        Look::Sliced => list_outcome(at, names.tid, names.actor, news),
+        Look::Woken => list_wakes(at, names.actor, news),
+        Look::Trimmed => list_gone(at, names.batch, news),
+        Look::Back => list_back(at, names.actor, news),
+        Look::PactEnded => list_pact_ended(at, names.tid, names.actor, news),
+        Look::NextEnds => list_ends(at, news),
+        Look::Noted => list_noted(at.hand, names.batch, news),
+        Look::Committed => list_committed(at.tables, names.batch, news),
+        Look::Trims => list_trims(at, names.batch, news),
+        Look::Answers => list_answers(at, names.batch, news),
+        Look::Aborted => list_aborted(at, names.batch, news),
+        Look::ActEnded => list_act_ended(at, names.tid, news),
+        Look::Deciding => list_vouched(at.hand, names.tid, news),
+        Look::Decisions => {
+            finds.mark_book(at.tables.work.logs);
+            Ok(())
+        }
+        Look::Over => list_over(at, names.tid, news),
+        // A log is synced for all that waits there, not for each record.
+        Look::BatchLog | Look::ActLog | Look::ActorLog => Ok(()),
+        // The ring is not at hand where a batch has left an actor: `Trimmed` tells of the next one.
+        Look::NextBatch => Ok(()),
+        // The post is not at hand where an ACT has left an actor, or an actor has followed a cascade.
+        Look::Again | Look::Coming => Ok(()),
+        // `Over` lists these.
+        Look::Leaving => Ok(()),
+        // Few fall. A look finds them.
+        Look::Fallen | Look::GivenUp => Ok(()),
     }
 }
 
@@ -92,15 +116,10 @@ impl Mark {
 }
 
 /// Whether there is a place for one more ACT, of as many as may be live, since one of as many is over.
-pub(crate) fn frees_place(at: &AtHand, e: Event) -> bool {
-    match e {
-        Event::Ask(_, _) | Event::Finish(_, _) | Event::Decide(_) | Event::Seal(_) => {
-            match on_book(at.hand) {
-                Some(book) => book.live().wrapping_add(1) == at.tables.work.acts as usize,
-                None => false,
-            }
-        }
-        _ => false,
+fn frees_place(at: &AtHand) -> bool {
+    match on_book(at.hand) {
+        Some(book) => book.live().wrapping_add(1) == at.tables.work.acts as usize,
+        None => false,
     }
 }
 
@@ -207,11 +226,10 @@ fn list_ring(at: &AtHand, events: &mut Vec<Event>) -> Result<(), Memory>
     Ok(())
 }
 
-/// The control of an ACT that was admitted comes to where it goes, the token goes on, and the next ACT is admitted.
-fn list_admitted(at: &AtHand, t: Tid, events: &mut Vec<Event>) -> Result<(), Memory>
+/// The token goes on behind an ACT that was admitted, and the next one is admitted.
+fn list_admitted(at: &AtHand, events: &mut Vec<Event>) -> Result<(), Memory>
     requires { AreTables at.now.tables.now }
 {
-    list_control(at.hand, t, events)?;
     let Some(ring) = on_ring(at.hand) else {
         return Ok(());
     };
@@ -274,11 +292,8 @@ fn list_decisions(at: &AtHand, l: u8, events: &mut Vec<Event>) -> Result<(), Mem
     Ok(())
 }
 
-/// What the ring does next, and that the batch comes to its actors.
-fn list_formed(at: &AtHand, k: Bid, events: &mut Vec<Event>) -> Result<(), Memory>
-    requires { AreTables at.now.tables.now }
-{
-    list_ring(at, events)?;
+/// The batch comes to its actors.
+fn list_formed(at: &AtHand, k: Bid, events: &mut Vec<Event>) -> Result<(), Memory> {
     match on_desk(at.hand) {
         Some(desk) => push_each(
             events,
@@ -354,12 +369,6 @@ pub(crate) fn list_coming(at: &AtHand, a: ActorId, events: &mut Vec<Event>) -> R
     Ok(())
 }
 
-/// The ACT, which was placed on the actor or died there, runs, since its control came along, or is answered.
-fn list_asked(at: &AtHand, t: Tid, a: ActorId, events: &mut Vec<Event>) -> Result<(), Memory> {
-    push_one(events, Event::Run(t, a))?;
-    list_leaving(at, t, events)
-}
-
 /// The cell of an actor, where it is at hand.
 fn on_cell(hand: &Hand, a: ActorId) -> Option<&CellPart<Control>> {
     if !hand.has_actor(a) || !hand.has_cell(a) {
@@ -394,25 +403,28 @@ fn list_outcome(at: &AtHand, t: Tid, a: ActorId, events: &mut Vec<Event>) -> Res
     list_wakes(at, a, events)
 }
 
-/// The transaction ended on the actor: an ACT is prepared on its actors or decided, a PACT owes the actor nothing more, others follow
-/// it, or it is answered.
-fn list_ended(at: &AtHand, t: Tid, a: ActorId, events: &mut Vec<Event>) -> Result<(), Memory> {
-    let Some(book) = on_book(at.hand) else {
-        return Ok(());
-    };
-    if book.tx_of(t).is_none() {
-        push_one(events, Event::Close(t, a))?;
-        return list_ends(at, events);
+/// Where a PACT ended on the actor, it owes the actor nothing more, and the next batch may end.
+fn list_pact_ended(at: &AtHand, t: Tid, a: ActorId, events: &mut Vec<Event>) -> Result<(), Memory> {
+    match on_book(at.hand) {
+        Some(book) if book.tx_of(t).is_none() => {
+            push_one(events, Event::Close(t, a))?;
+            list_ends(at, events)
+        }
+        Some(_) | None => Ok(()),
     }
+}
+
+/// Where an ACT ended, it is decided, or prepared on its actors.
+fn list_act_ended(at: &AtHand, t: Tid, events: &mut Vec<Event>) -> Result<(), Memory> {
     list_vouched(at.hand, t, events)?;
-    if book.has_value(t) {
-        push_each(
+    match on_book(at.hand) {
+        Some(book) if book.has_value(t) => push_each(
             events,
             &book.actors_of(at.alloc, t)?,
             |b| Event::Prepare(t, b),
-        )?;
+        ),
+        Some(_) | None => Ok(()),
     }
-    list_answer(at.hand, t, events)
 }
 
 /// How the next batch ends, where it may.
@@ -474,10 +486,8 @@ fn list_answers(at: &AtHand, k: Bid, events: &mut Vec<Event>) -> Result<(), Memo
     }
 }
 
-/// The replies of a batch's transactions, that it leaves its actors, and that the next one commits.
-fn list_settled(at: &AtHand, k: Bid, events: &mut Vec<Event>) -> Result<(), Memory> {
-    list_answers(at, k, events)?;
-    list_ends(at, events)?;
+/// The batch leaves its actors.
+fn list_trims(at: &AtHand, k: Bid, events: &mut Vec<Event>) -> Result<(), Memory> {
     match on_desk(at.hand) {
         Some(desk) => push_each(events, &desk.actors_of(at.alloc, k)?, |a| Event::Trim(k, a)),
         None => Ok(()),
@@ -540,7 +550,7 @@ pub(crate) fn list_live_answers(at: &AtHand, events: &mut Vec<Event>) -> Result<
 }
 
 /// The reply of an ACT's transaction, and that it leaves its actors, where it may.
-fn list_leaving(at: &AtHand, t: Tid, events: &mut Vec<Event>) -> Result<(), Memory> {
+fn list_over(at: &AtHand, t: Tid, events: &mut Vec<Event>) -> Result<(), Memory> {
     list_answer(at.hand, t, events)?;
     match on_book(at.hand) {
         Some(book) if book.may_leave(t) => push_each(

@@ -12,9 +12,7 @@ ghost use Rattle.turn_table.specs.Places.{at};
 ghost use Rattle.turn_table.specs.Words.{HoldsNothing, knows, splits_of, tables_of};
 
 use crate::finds::Finds;
-use crate::follows::{
-    AtHand, Mark, frees_place, list_follows, list_foreseen, list_refused, waiting_keys,
-};
+use crate::follows::{AtHand, Mark, follow, list_foreseen, list_refused, waiting_keys};
 use crate::sharing::Crew;
 use crate::workers::Worker;
 use core_events::{Event, Footprint, footprint};
@@ -246,13 +244,7 @@ impl<'a, D: LogDev + Drop, O: Sink + Drop, G: Gate> Crew<'a, D, O, G> {
                 hand: grip.hand(),
                 long: self.board.is_spread(),
             };
-            let _all = list_follows(&at, e, &mut finds.news);
-            if frees_place(&at, e) {
-                finds.mark_ring();
-            }
-            if let Event::Settle(_) = e {
-                finds.mark_book(logs);
-            }
+            follow(&at, e, finds);
             self.board.touch(parts);
         } else {
             finds.news.clear();
