@@ -94,6 +94,7 @@ fn list_aborted(at: &AtHand, k: Bid, events: &mut Vec<Event>) -> Result<(), Memo
 }
 
 /// Lists what may be allowed at a look, which is about these names.
+#[inline(always)]
 fn list_look(at: &AtHand, names: &Names, look: Look, events: &mut Vec<Event>) -> Result<(), Memory>
     requires tables { AreTables at.now.tables.now }
     requires places { IsHandOf (fixed_of at.now.tables.now) at.now.hand.now }
