@@ -7,6 +7,12 @@
 #[cfg(test)]
 mod commands;
 #[cfg(test)]
+mod gates;
+#[cfg(test)]
 mod rows;
+#[cfg(test)]
+mod series;
+#[cfg(test)]
+mod slow;
 #[cfg(test)]
 mod texts;

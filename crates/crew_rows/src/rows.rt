@@ -6,6 +6,7 @@ ghost use Rattle.crew_host.specs.gate_log.declared.limits.TheConstants.{FARTHEST
 ghost use Rattle.snap_core.specs.snap_hand.Tables.{AreTables};
 ghost use Rattle.snap_core.specs.snap_work.declared.limits.TheConstants.{MOST_WORKERS};
 
+use crate::slow::{SlowLog, SlowSink};
 use crate::texts::{BY_HAND, TOTAL, drawn, tables_of, text_of};
 use aml_serial::run_alone;
 use crew_host::{CrewEnd, FARTHEST_END, Log, MOST_WORKERS, Stop, drive_crew};
@@ -28,18 +29,23 @@ const MOST_ACTORS: u16 = 256;
 const CALLS_OF_AN_APPEND: usize = 4;
 
 /// Which calls fail: of the device of log 0, of that of log 1, and of the output, by their numbers from 1 on; 0 where none does.
+/// And for how many turns of a loop each sync of a device and each write of the output goes on.
 #[derive(Clone, Copy)]
-struct Faults {
-    first: u64,
-    second: u64,
-    out: u64,
+pub struct Faults {
+    pub first: u64,
+    pub second: u64,
+    pub out: u64,
+    pub sync_turns: u64,
+    pub write_turns: u64,
 }
 
-/// No call fails.
-const NO_FAULTS: Faults = Faults {
+/// No call fails, and none goes on for long.
+pub const NO_FAULTS: Faults = Faults {
     first: 0,
     second: 0,
     out: 0,
+    sync_turns: 0,
+    write_turns: 0,
 };
 
 impl Faults {
@@ -86,13 +92,16 @@ fn fails(alloc: Global, call: u64) -> Result<Vec<u64>, Memory> {
     Ok(calls)
 }
 
-/// A new log on a device of which this call fails, which is none of its opening.
-fn open_log(alloc: Global, call: u64) -> Result<Log<MemLog>, Memory>
+/// A new log on a device of which this call fails, which is none of its opening, and whose syncs go on for so many turns.
+fn open_log(alloc: Global, call: u64, turns: u64) -> Result<Log<SlowLog>, Memory>
     ensures open { IfOk result (λ log. log.shut ≡ false) }
     ensures end { IfOk result (λ log. log.end ≤ FARTHEST_END) }
     ensures format { IfOk result (λ log. log.format ≡ 2) }
 {
-    let device = MemLog::new(alloc, Vec::new(alloc), fails(alloc, call)?)?;
+    let device = SlowLog {
+        log: MemLog::new(alloc, Vec::new(alloc), fails(alloc, call)?)?,
+        turns,
+    };
     match Log::open(alloc, device) {
         Ok(log) => of_format_2(log),
         Err(_) => Err(Memory),
@@ -100,7 +109,7 @@ fn open_log(alloc: Global, call: u64) -> Result<Log<MemLog>, Memory>
 }
 
 /// A new log is of format 2.
-fn of_format_2(log: Log<MemLog>) -> Result<Log<MemLog>, Memory>
+fn of_format_2(log: Log<SlowLog>) -> Result<Log<SlowLog>, Memory>
     ensures { IfOk result (λ l. (l ≡ log) × (l.format ≡ 2)) }
 {
     if log.format() != 2 {
@@ -111,7 +120,7 @@ fn of_format_2(log: Log<MemLog>) -> Result<Log<MemLog>, Memory>
 }
 
 /// So many new logs.
-fn open_logs(alloc: Global, count: u8, faults: Faults) -> Result<Vec<Log<MemLog>>, Memory>
+fn open_logs(alloc: Global, count: u8, faults: Faults) -> Result<Vec<Log<SlowLog>>, Memory>
     ensures count { IfOk result (λ logs. vec_len logs ≡ count) }
     ensures open { IfOk result (λ logs. AllByRecursion (λ l. l.shut ≡ false) logs.items) }
     ensures ends { IfOk result (λ logs. AllByRecursion (λ l. l.end ≤ FARTHEST_END + 2 ^ 32) logs.items) }
@@ -119,7 +128,7 @@ fn open_logs(alloc: Global, count: u8, faults: Faults) -> Result<Vec<Log<MemLog>
 {
     let mut logs = Vec::with_capacity(alloc, count as usize)?;
     for l in 0..count {
-        match open_log(alloc, faults.of(l as usize)) {
+        match open_log(alloc, faults.of(l as usize), faults.sync_turns) {
             Ok(log) => logs.push_reserved(log),
             Err(_) => {
                 let _devices = devices_of(alloc, logs);
@@ -131,12 +140,12 @@ fn open_logs(alloc: Global, count: u8, faults: Faults) -> Result<Vec<Log<MemLog>
 }
 
 /// The devices of the logs.
-fn devices_of(alloc: Global, logs: Vec<Log<MemLog>>) -> Result<Vec<MemLog>, Memory> {
+fn devices_of(alloc: Global, logs: Vec<Log<SlowLog>>) -> Result<Vec<MemLog>, Memory> {
     let mut logs = logs;
     let mut devices = Vec::new(alloc);
     let mut all = Ok(());
     while let Some(log) = logs.pop() {
-        if devices.push(log.into_dev()).is_err() {
+        if devices.push(log.into_dev().into_log()).is_err() {
             all = Err(Memory);
         }
     }
@@ -158,7 +167,10 @@ fn run<R: Threads + Wait + Sync, G: Gate + Sync>(
     requires { workers ≤ MOST_WORKERS }
 {
     let core = Core::open(alloc, tables_of(alloc, text)?)?;
-    let out = MemSink::new(alloc, fails(alloc, faults.out)?)?;
+    let out = SlowSink {
+        sink: MemSink::new(alloc, fails(alloc, faults.out)?)?,
+        turns: faults.write_turns,
+    };
     let logs = open_logs(alloc, core.tables().work.logs, faults)?;
     let CrewEnd {
         core,
@@ -172,7 +184,7 @@ fn run<R: Threads + Wait + Sync, G: Gate + Sync>(
     Ok(Ended {
         core,
         devices,
-        out,
+        out: out.into_sink(),
         failed,
         stop,
         kept,
@@ -180,7 +192,7 @@ fn run<R: Threads + Wait + Sync, G: Gate + Sync>(
 }
 
 /// Appends what waits on log `l`, if there is such a log.
-fn append(alloc: Global, core: &Core, logs: &mut Vec<Log<MemLog>>, l: u8) -> Result<(), Memory> {
+fn append(alloc: Global, core: &Core, logs: &mut Vec<Log<SlowLog>>, l: u8) -> Result<(), Memory> {
     if l >= core.tables().work.logs {
         return Ok(());
     }
@@ -209,7 +221,7 @@ fn print(alloc: Global, core: &Core, n: TxNo, lines: &mut String) -> Result<(), 
 fn take(
     alloc: Global,
     core: &mut Core,
-    logs: &mut Vec<Log<MemLog>>,
+    logs: &mut Vec<Log<SlowLog>>,
     lines: &mut String,
     event: Event,
 ) -> Result<bool, Memory> {
@@ -229,7 +241,7 @@ fn take(
 fn take_all(
     alloc: Global,
     core: &mut Core,
-    logs: &mut Vec<Log<MemLog>>,
+    logs: &mut Vec<Log<SlowLog>>,
     lines: &mut String,
     ended: &Ended,
     faults: Faults,
@@ -514,7 +526,7 @@ fn untrue_with(
     faults: Faults,
     wanted: Option<i64>,
     mut core: Core,
-    mut logs: Vec<Log<MemLog>>,
+    mut logs: Vec<Log<SlowLog>>,
 ) -> Result<&'static str, Memory> {
     let mut lines = String::new(alloc);
     let taken = take_all(alloc, &mut core, &mut logs, &mut lines, ended, faults);
@@ -559,18 +571,20 @@ fn untrue(
     Ok(untrue_with(alloc, ended, faults, wanted, core, logs)?)
 }
 
-/// Runs the text by so many workers, and tells what is not so, and behind it the events that they took.
-fn run_untrue<R: Threads + Wait + Sync>(
+/// Runs the text by so many workers, with this gate before their slices, and tells what is not so, and behind it the events that
+/// they took.
+pub fn run_untrue_at<R: Threads + Wait + Sync, G: Gate + Sync>(
     rt: &R,
     alloc: Global,
     text: &[u8],
     workers: usize,
     faults: Faults,
+    gate: &G,
     wanted: Option<i64>,
 ) -> Result<String, Fail>
     requires { workers ≤ MOST_WORKERS }
 {
-    let ended = run(rt, alloc, text, faults, &FreeGate::new(), workers)?;
+    let ended = run(rt, alloc, text, faults, gate, workers)?;
     let mut told = String::from_str(alloc, untrue(alloc, text, &ended, faults, wanted)?)?;
     if !told.is_empty() {
         told.push_str("; taken were\n")?;
@@ -581,35 +595,39 @@ fn run_untrue<R: Threads + Wait + Sync>(
     Ok(told)
 }
 
+/// The same, where each slice begins at once.
+fn run_untrue<R: Threads + Wait + Sync>(
+    rt: &R,
+    alloc: Global,
+    text: &[u8],
+    workers: usize,
+    faults: Faults,
+    wanted: Option<i64>,
+) -> Result<String, Fail>
+    requires { workers ≤ MOST_WORKERS }
+{
+    run_untrue_at(rt, alloc, text, workers, faults, &FreeGate::new(), wanted)
+}
+
+/// These calls fail, and none goes on for long.
+fn failing(first: u64, second: u64, out: u64) -> Faults {
+    Faults {
+        first,
+        second,
+        out,
+        ..NO_FAULTS
+    }
+}
+
 /// Faults of a number, on one log, on two, on the output and on both kinds.
-fn faults_of(number: u64) -> Faults {
+pub fn faults_of(number: u64) -> Faults {
     let (call, out) = (4 + number / 5, 1 + number / 5);
     match number % 5 {
-        0 => Faults {
-            first: call,
-            second: 0,
-            out: 0,
-        },
-        1 => Faults {
-            first: 0,
-            second: call,
-            out: 0,
-        },
-        2 => Faults {
-            first: call,
-            second: call,
-            out: 0,
-        },
-        3 => Faults {
-            first: 0,
-            second: 0,
-            out,
-        },
-        _ => Faults {
-            first: call,
-            second: 0,
-            out,
-        },
+        0 => failing(call, 0, 0),
+        1 => failing(0, call, 0),
+        2 => failing(call, call, 0),
+        3 => failing(0, 0, out),
+        _ => failing(call, 0, out),
     }
 }
 
@@ -621,7 +639,7 @@ fn workers_of(number: u64) -> usize
 }
 
 /// What is not so of a run, with what it takes to run it again.
-fn told(alloc: Global, workers: usize, of: &str, wrong: &str) -> Result<String, Memory> {
+pub fn told(alloc: Global, workers: usize, of: &str, wrong: &str) -> Result<String, Memory> {
     Ok(format!(in alloc; "{workers} workers, {of}: {wrong}")?)
 }
 

@@ -150,8 +150,14 @@ fn line(alloc: Global, place: u32, what: u32) -> Result<String, Memory> {
     Ok(format!(in alloc; "pact {call} uses{uses}\n")?)
 }
 
-/// The text of both kinds of transactions that a seed draws.
+/// The text of a few transactions of both kinds that a seed draws.
 pub fn drawn(alloc: Global, seed: u64) -> Result<Vec<u8>, Memory> {
+    let count = 6 + Pcg32::new(seed, 2).next_word() / 1024 % 8;
+    crowd(alloc, seed, count)
+}
+
+/// The text of so many transactions of both kinds that a seed draws.
+pub fn crowd(alloc: Global, seed: u64, count: u32) -> Result<Vec<u8>, Memory> {
     let mut generator = Pcg32::new(seed, 2);
     let words = generator.next_word();
     let settings = [
@@ -162,7 +168,7 @@ pub fn drawn(alloc: Global, seed: u64) -> Result<Vec<u8>, Memory> {
         1 + words / 256 % 4,
     ];
     let mut lines = String::new(alloc);
-    for _ in 0..6 + words / 1024 % 8 {
+    for _ in 0..count {
         let (place, what) = (generator.next_word(), generator.next_word());
         lines.push_str(&line(alloc, place, what)?)?;
     }
