@@ -78,7 +78,7 @@ fn faults_by(calls: Calls, seed: u64) -> Faults {
             ..NO_FAULTS
         },
         // One kind of faults for each seed, and later calls with greater seeds.
-        Calls::Failing => faults_of(11 * (seed % 64)),
+        Calls::Failing => faults_of(11 * (seed % 16)),
     }
 }
 
