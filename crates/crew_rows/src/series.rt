@@ -27,8 +27,8 @@ enum Calls {
     Failing,
 }
 
-/// Series of texts with so many transactions each: the texts, how many workers there are, the first seed and the one behind the
-/// last, and the calls outside.
+/// Series of runs of `TRANSACTIONS` each: the texts, how many workers there are, the first seed and the one behind the last, and the
+/// calls outside.
 const SERIES: [(Texts, usize, u64, u64, Calls); 8] = [
     (Texts::Generated, 8, 0, 30, Calls::Quick),
     (Texts::Generated, 8, 30, 40, Calls::SlowSyncs),
