@@ -13,4 +13,4 @@ returns c = λ b s.
     let old = c.args.events.now.items in
     let new = c.list_looks.new.events.items in
     subst (λ ls. Adds old new (flat_map (of_look (text_of at.tables.now) at.hand.now at.next at.ring.now b at.post.now.messages at.desk.now (names_of (event_meant c.args.e))) ls)) c.looks_of.ensures
-    (subst (λ n. Adds old new (flat_map (of_look (text_of at.tables.now) at.hand.now at.next at.ring.now b at.post.now.messages at.desk.now n) c.looks_of.result.now)) c.names_of.ensures (c.in_ok-list_looks.ensures b s))
+    (subst (λ n. Adds old new (flat_map (of_look (text_of at.tables.now) at.hand.now at.next at.ring.now b at.post.now.messages at.desk.now n) c.looks_of.result.now)) c.names_of-names.ensures (c.in_ok-list_looks.ensures b s))

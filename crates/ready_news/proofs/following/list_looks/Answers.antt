@@ -1,5 +1,5 @@
 use Rattle.std.specs.List.{flat_map}
-use Rattle.std.proofs.Common.{subst}
+use Rattle.std.proofs.Common.{map-id, subst}
 use Rattle.std.proofs.lemmas.List.{get_or_default}
 use Rattle.ready_listing.proofs.Adding.{adds_all, adds_more}
 use Rattle.ready_listing.specs.Listed.{Adds}
