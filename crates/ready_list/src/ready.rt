@@ -63,7 +63,7 @@ impl ReadyList {
     pub fn nth(&self, n: usize) -> Option<Event>
         ensures { option_map event_meant result ≡ slice_get self.now.events n }
     {
-        if n < self.count / 2 || n >= self.count {
+        if n <= self.count / 2 || n >= self.count {
             return nth_from(self.kinds.as_slice(), self.first, n);
         }
         nth_to(self.kinds.as_slice(), self.count - 1 - n)

@@ -30,7 +30,7 @@ pub(crate) fn nth_from(kinds: &[Ring], first: usize, n: usize) -> Option<Event>
     None
 }
 
-/// The one of all events behind which so many stand. `None` exactly where there are not so many.
+/// The one of all events behind which so many stand, where there is one.
 pub(crate) fn nth_to(kinds: &[Ring], behind: usize) -> Option<Event>
     ensures { (n : ℕ) → n + behind + 1 ≡ length (all_events kinds.now) → option_map event_meant result ≡ slice_get (all_events kinds.now) n }
 {
