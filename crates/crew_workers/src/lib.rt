@@ -4,25 +4,16 @@
 //! returns; only the loop of a worker waits.
 #![tactic(auto)]
 
-mod boards;
 mod crews;
 mod ends;
-mod finds;
-mod follows;
-mod kinds;
-mod leaders;
 mod looking;
 mod rounds;
 mod sharing;
-mod shelves;
 mod threads;
 mod workers;
 
-pub use boards::Board;
 pub use crews::{Hiring, run_crew};
 pub use ends::{Ending, Fault, end_crew, fault_of};
-pub use finds::Finds;
-pub use leaders::Scope;
 pub use looking::Seen;
 pub use rounds::Round;
 pub use sharing::Crew;

@@ -6,13 +6,11 @@ ghost use Rattle.snap_hand.specs.Hands.{IsHandOf};
 ghost use Rattle.snap_hand.specs.Tables.{AreTables, fixed_of};
 ghost use Rattle.turn_table.specs.Words.{HoldsNothing, splits_of};
 
-use crate::finds::Finds;
-use crate::follows::{AtHand, list_coming, list_live_answers};
-use crate::leaders::Scope;
 use crate::sharing::Crew;
 use crate::workers::Worker;
 use core_events::{Event, RING, first_cell};
 use crew_grip::Grip;
+use crew_hints::{AtHand, Finds, Scope, list_coming, list_live_answers};
 use ready_listing::{actor_count, list_book, list_cells, list_desk, list_post, list_ring};
 use snap_base::{ActorId, Memory};
 use snap_outside::{Gate, LogDev, Sink};

@@ -11,12 +11,11 @@ ghost use Rattle.snap_hand.specs.Tables.{text_of};
 ghost use Rattle.turn_table.specs.Places.{at};
 ghost use Rattle.turn_table.specs.Words.{HoldsNothing, knows, splits_of, tables_of};
 
-use crate::finds::Finds;
-use crate::follows::{AtHand, Mark, follow, list_foreseen, list_refused, waiting_keys};
 use crate::sharing::Crew;
 use crate::workers::Worker;
 use core_events::{Event, Footprint, footprint};
 use crew_grip::{Acted, Grip};
+use crew_hints::{AtHand, Finds, Mark, follow, list_foreseen, list_refused, waiting_keys};
 use snap_outside::{Gate, LogDev, Sink};
 
 /// So many records that wait for a Sync are worth one.
@@ -284,7 +283,7 @@ impl<'a, D: LogDev + Drop, O: Sink + Drop, G: Gate> Crew<'a, D, O, G> {
     }
 
     /// Looks at the parts that tell what a mark is for. What they tell is left to try.
-    pub(crate) fn look_at(&self, worker: &mut Worker<D, O>, mark: Mark)
+    pub fn look_at(&self, worker: &mut Worker<D, O>, mark: Mark)
         requires crew { IsCrew self.now.turns.now }
         requires work { IsAtWork self.now.turns.now worker.old.pass.seat worker.old.grip }
         requires within { IsWithin worker.old.held worker.old.pass.seat }

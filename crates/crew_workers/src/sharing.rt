@@ -1,5 +1,5 @@
 //! What the workers of a crew have in common.
-use crate::boards::Board;
+use crew_hints::Board;
 use crew_parts::Share;
 use snap_outside::{Gate, LogDev, Sink};
 use std::alloc::Global;

@@ -4,17 +4,14 @@ ghost use Rattle.crew_grip.specs.Grips.{IsCrew};
 ghost use Rattle.crew_workers.specs.Workers.{IsBetweenRounds, IsInRounds};
 ghost use Rattle.turn_table.specs.Words.{HoldsNothing, IsOf, splits_of};
 
-use crate::boards::Board;
 use crate::crews::Hiring;
-use crate::finds::Finds;
-use crate::kinds::{is_slice, needs_hub, takes_long};
-use crate::leaders::{Leader, Next, Step};
 use crate::looking::Seen;
 use crate::rounds::Round;
 use crate::sharing::Crew;
 use crate::threads::{Work, work_in_threads};
 use core_events::{Event, Footprint, footprint};
 use crew_grip::{Acted, Grip};
+use crew_hints::{Board, Finds, Leader, Next, Step, is_slice, needs_hub, takes_long};
 use crew_parts::{Share, passes_stand};
 use snap_base::{Memory, TxNo};
 use snap_outside::{Gate, LogDev, Sink};

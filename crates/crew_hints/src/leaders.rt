@@ -28,7 +28,7 @@ pub enum Scope {
 
 /// What a worker does after a round.
 #[derive(Clone, Copy, Debug, PartialEq, Eq)]
-pub(crate) enum Next {
+pub enum Next {
     /// Another round.
     Again,
     /// It lets others work for a while.
@@ -39,7 +39,7 @@ pub(crate) enum Next {
 
 /// What a worker does that has nothing to try.
 #[derive(Clone, Copy, Debug, PartialEq, Eq)]
-pub(crate) enum Step {
+pub enum Step {
     /// It syncs a log whose records wait for that.
     Sync,
     /// It looks, so far.
@@ -57,7 +57,7 @@ fn patience(step: Step) -> u64 {
 
 /// Of a worker, whether it has the lead, and what it does next when it has nothing to try.
 #[derive(Drop)]
-pub(crate) struct Leader<'a> {
+pub struct Leader<'a> {
     /// The lead, where it looked, and has not tried all yet that it found.
     lead: Option<Lead<'a>>,
     /// Whether others know that it has nothing to try.

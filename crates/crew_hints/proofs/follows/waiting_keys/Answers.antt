@@ -4,7 +4,7 @@ use Rattle.protocol.specs.Events.{log}
 use Rattle.ready_listing.proofs.Parts.{all_had}
 use Rattle.snap_hand.proofs.Held.{log_there}
 use Rattle.snap_hand.specs.Hands.{is_at_hand}
-use Rattle.crew_workers.proofs.follows.waiting_keys.Goals as goal
+use Rattle.crew_hints.proofs.follows.waiting_keys.Goals as goal
 
 pub log-requires : goal.log-requires
 log-requires c =

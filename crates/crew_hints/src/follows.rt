@@ -17,7 +17,7 @@ const SUBMITS_IN_A_ROW: u32 = 256;
 
 /// What is at hand behind an event.
 #[derive(Drop)]
-pub(crate) struct AtHand<'a> {
+pub struct AtHand<'a> {
     pub alloc: Global,
     pub tables: &'a Tables,
     pub hand: &'a Hand,
@@ -27,7 +27,7 @@ pub(crate) struct AtHand<'a> {
 
 /// Puts to the news what the event, which was done with these parts at hand, may have made allowed, and marks what they do not tell.
 /// For want of memory some of it is left out.
-pub(crate) fn follow(at: &AtHand, e: Event, finds: &mut Finds)
+pub fn follow(at: &AtHand, e: Event, finds: &mut Finds)
     requires { AreTables at.now.tables.now }
 {
     let names = names_of(e);
@@ -88,7 +88,7 @@ fn follow_look(at: &AtHand, names: &Names, look: Look, finds: &mut Finds) -> Res
 
 /// Where an event may have made something allowed, and what tells it is not at hand behind the event.
 #[derive(Clone, Copy, Debug, PartialEq, Eq)]
-pub(crate) enum Mark {
+pub enum Mark {
     /// The ring may go on, since there is a place for one more ACT.
     Ring,
     /// ACTs may be decided whose commit records go to this log, since a batch is settled.
@@ -124,7 +124,7 @@ fn frees_place(at: &AtHand) -> bool {
 }
 
 /// What the records that wait in a log are about; nothing, where the log is not at hand.
-pub(crate) fn waiting_keys(hand: &Hand, l: u8) -> &[Key] {
+pub fn waiting_keys(hand: &Hand, l: u8) -> &[Key] {
     if !hand.has_log(l) || !hand.has(part_of_log(l)) {
         return &[];
     }
@@ -132,7 +132,7 @@ pub(crate) fn waiting_keys(hand: &Hand, l: u8) -> &[Key] {
 }
 
 /// Lists what a Sync of this log will make allowed, with the log at hand ahead of it: what the records wait for that it makes durable.
-pub(crate) fn list_foreseen(hand: &Hand, l: u8, events: &mut Vec<Event>) -> Result<(), Memory> {
+pub fn list_foreseen(hand: &Hand, l: u8, events: &mut Vec<Event>) -> Result<(), Memory> {
     for key in waiting_keys(hand, l) {
         match *key {
             Key::Genesis | Key::Checkpoint => {}
@@ -329,7 +329,7 @@ fn list_comer(
 }
 
 /// The control of an ACT that may not ask at the actor comes there.
-pub(crate) fn list_refused(e: Event, events: &mut Vec<Event>) -> Result<(), Memory> {
+pub fn list_refused(e: Event, events: &mut Vec<Event>) -> Result<(), Memory> {
     match e {
         Event::Ask(t, a) => push_one(events, Event::Take(t, a)),
         _ => Ok(()),
@@ -359,7 +359,7 @@ fn list_arrived(at: &AtHand, k: Bid, a: ActorId, events: &mut Vec<Event>) -> Res
 }
 
 /// The controls that go to this actor come there.
-pub(crate) fn list_coming(at: &AtHand, a: ActorId, events: &mut Vec<Event>) -> Result<(), Memory> {
+pub fn list_coming(at: &AtHand, a: ActorId, events: &mut Vec<Event>) -> Result<(), Memory> {
     let Some(post) = on_post(at.hand) else {
         return Ok(());
     };
@@ -539,7 +539,7 @@ fn list_answer(hand: &Hand, t: Tid, events: &mut Vec<Event>) -> Result<(), Memor
 }
 
 /// The replies of the ACTs that are live: one that fell with a batch, or at another one's call, may be due.
-pub(crate) fn list_live_answers(at: &AtHand, events: &mut Vec<Event>) -> Result<(), Memory> {
+pub fn list_live_answers(at: &AtHand, events: &mut Vec<Event>) -> Result<(), Memory> {
     let Some(book) = on_book(at.hand) else {
         return Ok(());
     };

@@ -10,7 +10,6 @@ use std::collections::VecDeque;
 const ROOM: usize = 64;
 
 /// Events that a worker has left to try, by their kinds. Of one kind they stand in the order in which they were found.
-#[derive(Drop)]
 pub struct Finds {
     /// For each kind, those of it.
     queues: Vec<VecDeque<Event>>,
@@ -19,15 +18,31 @@ pub struct Finds {
     /// The bits of the kinds that are tried in their order: all but Syncs, and but Runs where these are for whoever comes first.
     soon: u64,
     /// What the event that was just done may have made allowed.
-    pub(crate) news: Vec<Event>,
+    pub news: Vec<Event>,
     /// Whether the ring is to be looked at.
     ring: bool,
     /// How many logs there are of which the book is to be looked at for decisions.
     books: u8,
     /// What was taken over from other workers.
-    pub(crate) heard: Vec<Event>,
+    pub heard: Vec<Event>,
     /// What lacked a part, and could not be left to the worker that has it.
     later: Vec<Event>,
+}
+
+// Written out, since a derived drop is proved again in each crate that lets a worker go.
+impl Drop for Finds {
+    fn drop(self) {
+        let Finds {
+            queues: _queues,
+            some: _,
+            soon: _,
+            news: _news,
+            ring: _,
+            books: _,
+            heard: _heard,
+            later: _later,
+        } = self;
+    }
 }
 
 /// The bit of a kind.
@@ -128,7 +143,7 @@ impl Finds {
     }
 
     /// The next mark, which is gone then.
-    pub(crate) fn next_mark(&mut self) -> Option<Mark> {
+    pub fn next_mark(&mut self) -> Option<Mark> {
         if self.ring {
             self.ring = false;
             return Some(Mark::Ring);

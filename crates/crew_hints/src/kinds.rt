@@ -98,7 +98,7 @@ pub(crate) fn place_of(kind: Kind) -> u32 {
 }
 
 /// Whether the event may take long: a slice, or what goes to a device or to the output.
-pub(crate) fn takes_long(e: Event) -> bool {
+pub fn takes_long(e: Event) -> bool {
     match kind_of(e) {
         Kind::Slice | Kind::Sync | Kind::Reply => true,
         _ => false,
@@ -106,7 +106,7 @@ pub(crate) fn takes_long(e: Event) -> bool {
 }
 
 /// Whether the event is a slice.
-pub(crate) fn is_slice(e: Event) -> bool {
+pub fn is_slice(e: Event) -> bool {
     match e {
         Event::Run(_, _) => true,
         _ => false,
@@ -114,7 +114,7 @@ pub(crate) fn is_slice(e: Event) -> bool {
 }
 
 /// Whether the event needs the ring, the book, the post or the desk.
-pub(crate) fn needs_hub(e: Event) -> bool {
+pub fn needs_hub(e: Event) -> bool {
     match kind_of(e) {
         Kind::Slice | Kind::Complete | Kind::Sync => false,
         _ => true,

@@ -1,7 +1,7 @@
 use Rattle.std.proofs.Common.{length, sym, ◌∙◌}
 use Rattle.std.proofs.lemmas.Bool.{ltb-true}
 use Rattle.ready_listing.proofs.Parts.{cell_there}
-use Rattle.crew_workers.proofs.follows.on_cell.Goals as goal
+use Rattle.crew_hints.proofs.follows.on_cell.Goals as goal
 
 pub cell-requires : goal.cell-requires
 cell-requires c =
