@@ -1,17 +1,19 @@
 -- What the listers have in common: a list that grows tells what it told, all parts are at hand, and what is new is touched.
 use Rattle.std.specs.List.{flat_map}
-use Rattle.std.proofs.Common.{◌≡◌, ◌↔◌, refl, ℕ, zero, suc, ◌+◌, ◌-◌, ◌<◌, ◌≤◌, ◌==◌, not, true, false, ◌&&◌, Option, Some, None, is_some, List, [], ◌∷◌, ◌++◌, length, map, slice_get, option_map, Contains, arith, sym, ap, subst, ◌∙◌, append-nil}
+use Rattle.std.proofs.Common.{◌≡◌, ◌≢◌, ◌↔◌, refl, ℕ, zero, suc, ◌+◌, ◌-◌, ◌<◌, ◌≤◌, ◌==◌, Bool, not, true, false, ◌&&◌, get_or, take, Result, OnOk, Option, Some, None, is_some, List, [], ◌∷◌, ◌++◌, length, map, slice_get, option_map, Contains, arith, sym, ap, subst, ◌∙◌, append-nil}
 use Rattle.std.proofs.lemmas.Bool.{and_parts, not-true, eqb-true}
 use Rattle.std.proofs.lemmas.Grind.{flat_map-append}
+use Rattle.std.proofs.lemmas.List.{get_or_default}
 use Rattle.std.proofs.lemmas.List.Elements.{Contains-append_right}
 use Rattle.std.proofs.lemmas.Option.{slice_get-map}
+use Rattle.std.proofs.lemmas.Result.{on_ok_weaker}
 use Rattle.snap_base.proofs.Lists.{one_at}
 use Rattle.aml_slice.specs.Controls.{Rest}
 use Rattle.book_part.specs.Halves.{Halves}
 use Rattle.core_events.specs.Meant.{event_meant}
 use Rattle.core_events.specs.declared.events.Event as code
 use Rattle.ready_listing.specs.Listed.{Adds}
-use Rattle.ready_listing.proofs.Adding.{adds_both}
+use Rattle.ready_listing.proofs.Adding.{adds_all, adds_both, adds_more}
 use Rattle.ready_listing.proofs.Parts.{cell_shown}
 use Rattle.protocol.specs.Conditions.{IsAllowed, refusal}
 use Rattle.protocol.specs.Effects.{after}
@@ -21,6 +23,7 @@ use Rattle.protocol.specs.Numbers.{from}
 use Rattle.protocol.specs.Parts.{Ring, Post, Desk, Cell, Machine}
 use Rattle.protocol_ready.specs.Touched.{is_touched}
 use Rattle.snap_hand.specs.Hands.{Parts, IsWhole, are_there}
+use Rattle.ready_news.specs.InBook.{only}
 use Rattle.ready_news.specs.New.{is_new}
 
 -- ---- lists that grow
@@ -28,15 +31,30 @@ use Rattle.ready_news.specs.New.{is_new}
 pub has_added : (old new : List code.Event) (more : List Event) → Adds old new more → (f : Event) → Contains more f → Contains (map event_meant new) f
 has_added old new more h f c = subst (λ v. Contains v f) (sym h) (Contains-append_right (map event_meant old) more f c)
 
--- ---- three lists, and four
+-- ---- three lists
 
 pub adds_three : (o u v n : List code.Event) (xs ys zs : List Event) → Adds o u xs → Adds u v ys → Adds v n zs → Adds o n (xs ++ (ys ++ zs))
 adds_three o u v n xs ys zs f g h = adds_both o u n xs (ys ++ zs) f (adds_both u v n ys zs g h)
 
-pub adds_four : (o u v t n : List code.Event) (xs ys zs rest : List Event) → Adds o u xs → Adds u v ys → Adds v t zs → Adds t n rest → Adds o n (xs ++ (ys ++ (zs ++ rest)))
-adds_four o u v t n xs ys zs rest f g h k = adds_both o u n xs (ys ++ (zs ++ rest)) f (adds_three u v t n ys zs rest g h k)
+-- ---- where memory sufficed
+
+-- two lists, of which the second is the last
+pub ok_both : {T E : Type 0} (r : Result T E) (o u n : List code.Event) (xs ys : List Event) → Adds o u xs → OnOk r (Adds u n ys) → OnOk r (Adds o n (xs ++ ys))
+ok_both r o u n xs ys h = on_ok_weaker r (adds_both o u n xs ys h)
+
+-- one event, where this is so
+pub adds_if : (e : Event) (o n : List code.Event) (p q : Bool) → p ≡ q → Adds o n (only p e) → Adds o n (only q e)
+adds_if e o n p q same = subst (λ b. Adds o n (only b e)) same
 
 -- ---- loops
+
+-- over a list that is lent, one element further
+pub adds_next : {X A : Type 0} (f : A → List Event) (g : X → A) (xs : List X) (i : ℕ) (x : X) (base now next : List code.Event) → i < length xs → Adds base now (flat_map f (map g (take i xs))) → Adds now next (f (g (get_or xs i x))) → Adds base next (flat_map f (map g (take (i + 1) xs)))
+adds_next f g xs i x base now next within = adds_more f g xs i (get_or xs i x) base now next within (get_or_default xs i x (get_or xs i x) within)
+
+-- and at its end, where these are the elements
+pub adds_each : {X A : Type 0} (f : A → List Event) (g : X → A) (xs : List X) (all : List A) (i : ℕ) (base now : List code.Event) → map g xs ≡ all → length xs ≤ i → Adds base now (flat_map f (map g (take i xs))) → Adds base now (flat_map f all)
+adds_each f g xs all i base now are past so_far = subst (λ v. Adds base now (flat_map f v)) are (adds_all f g xs i base now past so_far)
 
 from_last : (k m : ℕ) → from k (suc m) ≡ from k m ++ (k + m) ∷ []
 from_last k zero = ap (λ n. n ∷ []) (omega arith)
@@ -74,6 +92,16 @@ module _ (w : Fixed Rest) (e : Event) (s : Machine Rest) (f : Event) (h : is_new
   -- by the law of the rows
   pub new_is_allowed : ((w : Fixed Rest) (e : Event) (s : Machine Rest) → (refusal w e s ≡ 0) ↔ IsAllowed w e s) → IsAllowed w f (after w e s)
   new_is_allowed ruled = (ruled w f (after w e s)).0 (eqb-true (refusal w f (after w e s)) 0 (and_parts (not (refusal w f s == 0)) (refusal w f (after w e s) == 0) both.1).1)
+
+-- ---- the cell of an actor, where there is such an actor
+
+module _ {X : Type 0} (view : X → Cell Rest) (shown : Option (Option (Cell Rest))) where
+  pub at_some : (o : Option X) (x : X) → option_map (λ c. Some (view c)) o ≡ shown → o ≡ Some x → Some (Some (view x)) ≡ shown
+  at_some o x is e = ap (option_map (λ c. Some (view c))) (sym e) ∙ is
+
+  pub at_none : (o : Option X) → option_map (λ c. Some (view c)) o ≡ shown → ((x : X) → o ≢ Some x) → None ≡ shown
+  at_none None is other = is
+  at_none (Some x) is other = absurd (other x refl)
 
 -- ---- all parts are at hand
 

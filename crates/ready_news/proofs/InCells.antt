@@ -446,9 +446,3 @@ all_cells_told w e s h es places whole behind ruled goes owing ranges sizes enou
 
 pub not_there : (h : Parts) (a : ℕ) → nat_lt a (length h.cells) ≡ false → slice_get h.cells a ≡ None
 not_there h a e = slice_get_past h.cells a (ltb-false a (length h.cells) e)
-
-pub ended_none : (w : Text) (t : ℕ) (h : Parts) (d : Desk) → h.desk ≡ Some d → is_some (pact_result t d.batches) ≡ false → closes_behind w t h.desk h ≡ []
-ended_none w t h d is e = ap (λ o. closes_behind w t o h) is ∙ ap (λ b. if b then flat_map (close_at t h) (declared_in w (pact_tx t d.batches)) else []) e
-
-pub ended_some : (w : Text) (t : ℕ) (h : Parts) (d : Desk) → h.desk ≡ Some d → is_some (pact_result t d.batches) ≡ true → closes_behind w t h.desk h ≡ flat_map (close_at t h) (declared_in w (pact_tx t d.batches))
-ended_some w t h d is e = ap (λ o. closes_behind w t o h) is ∙ ap (λ b. if b then flat_map (close_at t h) (declared_in w (pact_tx t d.batches)) else []) e

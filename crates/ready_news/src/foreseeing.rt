@@ -9,7 +9,7 @@ ghost use Rattle.snap_hand.specs.Tables.{AreTables, fixed_of};
 ghost use Rattle.ready_news.specs.Foreseen.{of_key, of_keys};
 ghost use Rattle.ready_news.specs.New.{IsAheadOf, IsForeseen};
 
-use crate::in_book::push_if;
+use crate::at_hand::push_if;
 use aml_slice::Control;
 use core_events::Event;
 use listing_facts::Desk;

@@ -4,6 +4,7 @@
 //! `foreseen`, since after it no part tells which records it has made durable.
 #![tactic(auto)]
 
+mod at_hand;
 mod following;
 mod foreseeing;
 mod given_up;

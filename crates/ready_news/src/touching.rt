@@ -9,7 +9,7 @@ ghost use Rattle.snap_hand.specs.Hands.{IsHandOf, IsWhole};
 ghost use Rattle.snap_hand.specs.Tables.{AreTables, fixed_of};
 ghost use Rattle.ready_news.specs.New.{IsBehind, IsForeseen, is_new, is_sync};
 
-use crate::following::{AtHand, list_by_event};
+use crate::at_hand::AtHand;
 use crate::laws::{
     answers_are_told, book_is_told, cells_are_told, desk_is_told, logs_are_told, post_is_told,
     ring_is_told,
@@ -64,6 +64,6 @@ pub fn touched(
         desk,
         next: desk.next(),
     };
-    list_by_event(&at, e, events)?;
+    at.list_by_event(e, events)?;
     Ok(())
 }

@@ -1,5 +1,5 @@
-use Rattle.std.specs.Prelude.{option_copied, unwrap_or}
 use Rattle.std.proofs.Common.{◌≡◌, None, slice_get, sym, ap, ◌∙◌}
+use Rattle.std.specs.Prelude.{option_copied, unwrap_or}
 use Rattle.std.proofs.lemmas.Option.{unwrap_or-slice_get}
 use Rattle.protocol.specs.Fixed.{declared, no_tx}
 use Rattle.ready_news.proofs.in_cells.uses_of.Goals as goal

@@ -1,0 +1,13 @@
+use Rattle.std.proofs.Common.{map, ap, ◌∙◌}
+use Rattle.protocol.specs.Meant.{tid_number}
+use Rattle.ready_news.specs.ByEvent.{of_gone}
+use Rattle.ready_news.proofs.Common.{adds_next, adds_each}
+use Rattle.ready_news.proofs.at_hand.AtHand.list_all_gone.Goals as goal
+
+pub loop-t-preserved : goal.loop-t-preserved
+loop-t-preserved c b s =
+    adds_next (of_gone b) tid_number c.deref-t-items.result.now c.loop-t.t-index _ c.args.events.now.items c.loop-t.events.items c.list_gone.new.events.items c.loop-t-test.true (c.loop-t.invariant b s)
+    (c.in_ok-list_gone.ensures b s)
+
+pub returns : goal.returns
+returns c b s = adds_each (of_gone b) tid_number c.deref-t-items.result.now _ c.loop-t.t-index c.args.events.now.items c.loop-t.events.items (ap (map tid_number) c.deref-t-items.ensures.value ∙ c.in_ok-tids.ensures b s) c.loop-t-test.false (c.loop-t.invariant b s)

@@ -1,8 +1,0 @@
-use Rattle.std.proofs.Common.{subst}
-use Rattle.ready_listing.specs.Listed.{Adds}
-use Rattle.protocol.specs.Events.{Take}
-use Rattle.ready_news.specs.InBook.{only}
-use Rattle.ready_news.proofs.in_post.list_take.Goals as goal
-
-pub returns : goal.returns
-returns c = subst (λ p. Adds c.args.events.now.items c.push_if.new.events.items (only p (Take c.args.t.0 c.args.a.0))) c.goes_to-goes.ensures c.in_ok-push_if.ensures
