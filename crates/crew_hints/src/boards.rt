@@ -44,7 +44,6 @@ const ROOM_OF_CELL: usize = 16;
 const TAKES: usize = 8;
 
 /// A board that all workers of a crew read and write.
-#[derive(Drop)]
 pub struct Board {
     /// How many logs there are.
     logs: u8,
@@ -82,6 +81,32 @@ pub struct Board {
     /// 1 once a worker has ended.
     ended: AtomicU64,
     ghost some: { 1 ≤ logs },
+}
+
+// Written out, since a derived drop is proved again in each crate that lets a board go.
+impl Drop for Board {
+    fn drop(self) {
+        let Board {
+            logs: _,
+            alone: _,
+            runs: _runs,
+            hub_events: _hub_events,
+            hub: _hub,
+            lacking: _lacking,
+            left: _left,
+            gone: _gone,
+            waiting: _waiting,
+            touched: _touched,
+            pace: _pace,
+            spread: _spread,
+            inside: _inside,
+            looking: _looking,
+            working: _working,
+            resting: _resting,
+            woken: _woken,
+            ended: _ended,
+        } = self;
+    }
 }
 
 /// The lead: who has it looks, and tries what it found, and no other worker looks meanwhile. It is given back when it is dropped.

@@ -24,7 +24,7 @@ pub struct Finds {
     /// How many logs there are of which the book is to be looked at for decisions.
     books: u8,
     /// What was taken over from other workers.
-    pub heard: Vec<Event>,
+    pub(crate) heard: Vec<Event>,
     /// What lacked a part, and could not be left to the worker that has it.
     later: Vec<Event>,
 }
@@ -153,15 +153,6 @@ impl Finds {
             return Some(Mark::Book(self.books));
         }
         None
-    }
-
-    /// What the last event may have made allowed is left to try.
-    pub fn keep_news(&mut self) {
-        for _event in 0..self.news.len() {
-            if let Some(e) = self.news.pop() {
-                let _kept = self.put(e);
-            }
-        }
     }
 
     /// What was taken over is left to try.

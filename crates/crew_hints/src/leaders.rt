@@ -56,7 +56,6 @@ fn patience(step: Step) -> u64 {
 }
 
 /// Of a worker, whether it has the lead, and what it does next when it has nothing to try.
-#[derive(Drop)]
 pub struct Leader<'a> {
     /// The lead, where it looked, and has not tried all yet that it found.
     lead: Option<Lead<'a>>,
@@ -70,6 +69,20 @@ pub struct Leader<'a> {
     naps: u64,
     /// How many events had been tried when it last rested.
     pace: u64,
+}
+
+// Written out, since a derived drop is proved again in each crate that lets a worker go.
+impl<'a> Drop for Leader<'a> {
+    fn drop(self) {
+        let Leader {
+            lead: _lead,
+            idle: _,
+            step: _,
+            rests: _,
+            naps: _,
+            pace: _,
+        } = self;
+    }
 }
 
 impl<'a> Leader<'a> {
