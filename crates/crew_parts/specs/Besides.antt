@@ -21,6 +21,11 @@ beside_log j = record { journal = Some j; output = None }
 abbrev pub beside_desk : OutputState → BesideState
 beside_desk o = record { journal = None; output = Some o }
 
+-- where there may be something
+abbrev pub beside_held : Option BesideState → BesideState
+beside_held None = beside_none
+beside_held (Some b) = b
+
 -- ---- when a part can go on
 
 abbrev pub is_ready_journal : Option LogState → Bool

@@ -1,52 +1,80 @@
 //! What stands beside a part of the machine.
-ghost use Rattle.std.specs.Prelude.{◌≡◌, None, Some, false, true, option_map};
-ghost use Rattle.crew_parts.specs.Besides.{HasAppended, HasWritten, IsSoundBeside, MayAppendTo, MayWriteTo, beside_log, beside_desk, beside_none, has_failed_there, is_ready_journal, is_ready_output, is_shut_there};
+ghost use Rattle.std.specs.Prelude.{◌≡◌, false, true, option_map};
+ghost use Rattle.crew_parts.specs.Besides.{HasAppended, HasWritten, IsSoundBeside, MayAppendTo, MayWriteTo, beside_desk, beside_log, beside_none, has_failed_there, is_ready_journal, is_ready_output, is_shut_there};
 ghost use Rattle.crew_parts.specs.Shares.{output_seen};
 
+use crate::held::Held;
 use core_events::{DESK, FIRST_LOG};
 use gate_log::{AppendNo, Log};
-use run_effects::{append_pieces, write_all};
-use snap_base::Sequence;
+use snap_base::{Memory, Sequence};
 use snap_outside::{Failed, LogDev, Sink};
 use std::alloc::Global;
+use std::boxed::Box;
 use std::marker::Model;
 
+/// A place on the heap for a journal or for the output.
+pub struct Slot<D: LogDev, O: Sink> {
+    held: Box<Held<D, O>>,
+}
+
+// Written out, so that a crate above calls it and does not repeat it.
+impl<D: LogDev + Drop, O: Sink + Drop> Drop for Slot<D, O> {
+    fn drop(self) {
+        let Slot { held: _held } = self;
+    }
+}
+
+impl<D: LogDev + Drop, O: Sink + Drop> Slot<D, O> {
+    /// An empty slot.
+    pub fn new(alloc: Global) -> Result<Self, Memory> {
+        let held = Box::new(alloc, Held::nothing())?;
+        Ok(Slot { held })
+    }
+
+    /// Beside a log, a journal that takes appends.
+    pub fn with_journal(self, log: Log<D>) -> Beside<D, O>
+        requires open { log.shut ≡ false }
+        requires format { log.format ≡ 2 }
+        ensures { result ≡ beside_log log }
+    {
+        self.with(Held::journal(log))
+    }
+
+    /// Beside the desk, the output.
+    pub fn with_output(self, out: O) -> Beside<D, O>
+        ensures { result ≡ beside_desk (output_seen O.taken O.faults O.late false out) }
+    {
+        self.with(Held::output(out))
+    }
+
+    fn with(self, what: Held<D, O>) -> Beside<D, O>
+        ensures { result ≡ what }
+    {
+        let Slot { mut held } = self;
+        let _nothing = Box::replace(&mut held, what);
+        Beside { held: Some(held) }
+    }
+}
+
 /// What stands beside a part: beside a log its journal on its device, beside the desk the output, and nothing beside the others.
+/// What is there stays in its slot, so that to move it moves a pointer.
 pub struct Beside<D: LogDev, O: Sink> {
-    journal: Option<Log<D>>,
-    output: Option<O>,
-    /// Whether the journal's device failed at an append. The journal is shut then.
-    cut: bool,
-    /// Whether the output failed at a line of this crew. Nothing is written to it then.
-    failed: bool,
+    held: Option<Box<Held<D, O>>>,
 }
 
 impl<D: LogDev, O: Sink> Model for Beside<D, O> {
-    ghost use Rattle.std.specs.Prelude.{◌≡◌, option_map};
-    ghost use Rattle.crew_parts.specs.Besides.{IsOfFormat2, is_shut_there};
-    ghost use Rattle.crew_parts.specs.Shares.{BesideState, output_seen};
+    ghost use Rattle.std.specs.Prelude.{option_map};
+    ghost use Rattle.crew_parts.specs.Besides.{beside_held};
+    ghost use Rattle.crew_parts.specs.Shares.{BesideState};
 
     ghost Value = { BesideState };
 
-    ghost view = { λ b. record { journal = b.journal; output = option_map (output_seen O.taken O.faults O.late b.failed) b.output } };
-
-    ghost invariant = { λ b. (b.cut ≡ is_shut_there b.journal) × IsOfFormat2 b.journal };
+    ghost view = { λ b. beside_held (option_map (λ h. h.value) b.held) };
 }
 
 impl<D: LogDev + Drop, O: Sink + Drop> Drop for Beside<D, O> {
     fn drop(self) {
-        let (journal, _output) = self.open();
-        let_go(journal);
-    }
-}
-
-/// The device of a journal that is not needed any more is let go.
-fn let_go<D: LogDev + Drop>(journal: Option<Log<D>>) {
-    match journal {
-        Some(log) => {
-            let _device = log.into_dev();
-        }
-        None => {}
+        let Beside { held: _held } = self;
     }
 }
 
@@ -55,38 +83,7 @@ impl<D: LogDev, O: Sink> Beside<D, O> {
     pub fn bare() -> Self
         ensures { result ≡ beside_none }
     {
-        Beside {
-            journal: None,
-            output: None,
-            cut: false,
-            failed: false,
-        }
-    }
-
-    /// Beside a log, a journal that takes appends.
-    pub fn with_journal(log: Log<D>) -> Self
-        requires open { log.shut ≡ false }
-        requires format { log.format ≡ 2 }
-        ensures { result ≡ beside_log log }
-    {
-        Beside {
-            journal: Some(log),
-            output: None,
-            cut: false,
-            failed: false,
-        }
-    }
-
-    /// Beside the desk, the output.
-    pub fn with_output(out: O) -> Self
-        ensures { result ≡ beside_desk (output_seen O.taken O.faults O.late false out) }
-    {
-        Beside {
-            journal: None,
-            output: Some(out),
-            cut: false,
-            failed: false,
-        }
+        Beside { held: None }
     }
 
     /// Takes it apart, into the journal and the output, each of which is `None` where it is not here. Whether the output failed
@@ -94,28 +91,29 @@ impl<D: LogDev, O: Sink> Beside<D, O> {
     pub fn open(self) -> (Option<Log<D>>, Option<O>)
         ensures journal { result.0 ≡ self.journal }
     {
-        let Beside {
-            journal,
-            output,
-            cut: _,
-            failed: _,
-        } = self;
-        (journal, output)
+        let Beside { held } = self;
+        match held {
+            Some(held) => Box::into_inner(held).open(),
+            None => (None, None),
+        }
     }
 
     /// Whether a journal is here that is shut: its device failed at an append.
     pub fn is_shut(&self) -> bool
         ensures { result ≡ is_shut_there self.now.journal }
     {
-        self.cut
+        match &self.held {
+            Some(held) => held.is_shut(),
+            None => false,
+        }
     }
 
     /// Whether an output is here that failed at a line.
     pub fn has_failed(&self) -> bool
         ensures { result ≡ has_failed_there self.now.output }
     {
-        match &self.output {
-            Some(_) => self.failed,
+        match &self.held {
+            Some(held) => held.has_failed(),
             None => false,
         }
     }
@@ -138,13 +136,19 @@ impl<D: LogDev, O: Sink> Beside<D, O> {
     fn has_output(&self) -> bool
         ensures { result ≡ is_ready_output self.now.output }
     {
-        self.output.is_some() && !self.failed
+        match &self.held {
+            Some(held) => held.has_output(),
+            None => false,
+        }
     }
 
     fn has_journal(&self) -> bool
         ensures { result ≡ is_ready_journal self.now.journal }
     {
-        self.journal.is_some() && !self.cut
+        match &self.held {
+            Some(held) => held.has_journal(),
+            None => false,
+        }
     }
 
     /// Appends the pieces, in their order, to the journal, as one group. `Memory` leaves all as it was. `Device` shuts the journal,
@@ -153,14 +157,10 @@ impl<D: LogDev, O: Sink> Beside<D, O> {
         requires { MayAppendTo self.old pieces.now }
         ensures { HasAppended self.old self.new pieces.now result }
     {
-        let result = match &mut self.journal {
-            Some(log) => append_pieces(alloc, log, pieces),
+        match &mut self.held {
+            Some(held) => held.append(alloc, pieces),
             None => unreachable!(),
-        };
-        if result == Err(AppendNo::Device) {
-            self.cut = true;
         }
-        result
     }
 
     /// Writes a line to the output, which has not failed yet. Where the output fails at it, it took a front of the line, and has
@@ -169,14 +169,8 @@ impl<D: LogDev, O: Sink> Beside<D, O> {
         requires { MayWriteTo self.old }
         ensures { HasWritten self.old self.new line.now result }
     {
-        match &mut self.output {
-            Some(out) => match write_all(out, line) {
-                Ok(()) => Ok(()),
-                Err(failed) => {
-                    self.failed = true;
-                    Err(failed)
-                }
-            },
+        match &mut self.held {
+            Some(held) => held.write(line),
             None => unreachable!(),
         }
     }
@@ -197,15 +191,9 @@ impl<D: LogDev, O: Sink> Beside<D, O> {
         D: Drop,
         ensures { self.output ≡ option_map (λ p. output_seen O.taken O.faults O.late p.1 p.0) result }
     {
-        let Beside {
-            journal,
-            output,
-            cut: _,
-            failed,
-        } = self;
-        let_go(journal);
-        match output {
-            Some(out) => Some((out, failed)),
+        let Beside { held } = self;
+        match held {
+            Some(held) => Box::into_inner(held).into_output(),
             None => None,
         }
     }

@@ -6,12 +6,13 @@
 
 mod acts;
 mod besides;
+mod held;
 mod laws;
 mod pieces;
 mod shares;
 
 pub use acts::Act;
-pub use besides::Beside;
+pub use besides::{Beside, Slot};
 pub use laws::{
     acts_are_few, acts_are_runs, crashes_find_moments, devices_stand_at_moments, passes_have_room,
     passes_stand, runs_lead, steps_are_moments,

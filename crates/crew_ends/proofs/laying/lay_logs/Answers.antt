@@ -24,6 +24,7 @@ loop-log-preserved g c = record {
       (subst (λ (js : List LogState). AllByRecursion (λ (j : LogState). j.shut ≡ false) js) c.in-Some.ensures.items c.loop-log.invariant.ready);
   format = all_but_last (λ (j : LogState). j.format ≡ 2) c.pop.new.self.items c.in-Some.log
       (subst (λ (js : List LogState). AllByRecursion (λ (j : LogState). j.format ≡ 2) js) c.in-Some.ensures.items c.loop-log.invariant.format);
+  slots = omega (arith, c.in-Some.ensures.cases, c.in-Some-pop.ensures.cases);
   capacity = c.in-Some.ensures.capacity ∙ c.loop-log.invariant.capacity;
   fewer = omega (arith, c.in-Some.ensures.cases);
   more = omega (arith, c.in-Some.ensures.cases);

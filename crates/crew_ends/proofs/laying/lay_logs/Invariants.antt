@@ -10,6 +10,7 @@ invariant-loop-log g l = record {
   besides : map beside_log l.fn.logs.items ++ besides_of (reverse l.fn.shares.items) ≡ map beside_log l.logs.items ++ besides_of (reverse l.shares.items);
   ready : AllByRecursion (λ j. j.shut ≡ false) l.logs.items;
   format : AllByRecursion (λ j. j.format ≡ 2) l.logs.items;
+  slots : vec_len l.slots + vec_len l.fn.logs ≡ vec_len l.fn.slots + vec_len l.logs;
   capacity : vec_capacity l.logs ≡ vec_capacity l.fn.logs;
   fewer : vec_len l.parts + vec_len l.fn.logs ≡ vec_len l.fn.parts + vec_len l.logs;
   more : vec_len l.shares + vec_len l.logs ≡ vec_len l.fn.shares + vec_len l.fn.logs;

@@ -11,6 +11,6 @@ returns-clause-parts g c =
     (sym c.lay_bare-2.new.parts.ok.0 ∙ omega arith)
 
 pub returns-clause-beside : goal.returns-clause-beside
-returns-clause-beside g c = stand_beside c.reverse.new.self.items c.args.logs.now.items _ _
+returns-clause-beside g c out is = stand_beside c.reverse.new.self.items c.args.logs.now.items out _
     (ap besides_of c.reverse.ensures.items
-    ∙ all_besides _ _ _ _ _ c.args.logs.now.items _ _ _ (ap (λ xs. besides_of (reverse xs)) c.requires.empty) c.lay_bare.ensures.besides c.lay_logs.ensures.besides c.lay_last.ensures.besides c.with_output.ensures c.lay_bare-2.ensures.besides)
+    ∙ all_besides _ _ _ _ _ c.args.logs.now.items _ _ _ (ap (λ xs. besides_of (reverse xs)) c.requires.empty) c.lay_bare.ensures.besides c.lay_logs.ensures.besides c.lay_last.ensures.besides is c.lay_bare-2.ensures.besides)
