@@ -259,14 +259,15 @@ impl<'a, D: LogDev + Drop, O: Sink + Drop, G: Gate> Crew<'a, D, O, G> {
         self.keep_news(grip, finds);
     }
 
-    /// What may be allowed of the news, as far as what is held tells, is left to try.
+    /// What may be allowed of the news, as far as what is held tells, is left to try. A worker alone tries all of it, since nearly all is
+    /// allowed, and nobody waits for a part meanwhile.
     fn keep_news(&self, grip: &Grip<D, O>, finds: &mut Finds)
         requires crew { IsCrew self.now.turns.now }
         requires held { IsHeldNow self.now.turns.now grip.now }
     {
         for i in 0..finds.news.len() {
             if let Some(next) = finds.news.get(i).copied() {
-                if self.may_be_next(grip, next) {
+                if self.board.is_alone() || self.may_be_next(grip, next) {
                     let _kept = finds.put(next);
                 }
             }
