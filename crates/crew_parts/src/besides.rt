@@ -25,7 +25,7 @@ impl<D: LogDev + Drop, O: Sink + Drop> Drop for Slot<D, O> {
 }
 
 impl<D: LogDev + Drop, O: Sink + Drop> Slot<D, O> {
-    /// An empty slot.
+    /// An empty slot. `Memory` where there is none.
     pub fn new(alloc: Global) -> Result<Self, Memory> {
         let held = Box::new(alloc, Held::nothing())?;
         Ok(Slot { held })
@@ -72,6 +72,7 @@ impl<D: LogDev, O: Sink> Model for Beside<D, O> {
     ghost view = { λ b. beside_held (option_map (λ h. h.value) b.held) };
 }
 
+// Written out for the same reason.
 impl<D: LogDev + Drop, O: Sink + Drop> Drop for Beside<D, O> {
     fn drop(self) {
         let Beside { held: _held } = self;

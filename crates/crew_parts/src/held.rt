@@ -32,6 +32,7 @@ impl<D: LogDev, O: Sink> Model for Held<D, O> {
     ghost invariant = { λ h. (h.cut ≡ is_shut_there h.journal) × IsOfFormat2 h.journal };
 }
 
+// Written out, since the journal's device is let go by its log.
 impl<D: LogDev + Drop, O: Sink + Drop> Drop for Held<D, O> {
     fn drop(self) {
         let (journal, _output) = self.open();

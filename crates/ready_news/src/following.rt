@@ -41,7 +41,7 @@ impl AtHand<'_> {
         self.list_gone_at(a, events)
     }
 
-    /// What a PACT that ended owes nothing any more, and how the next batch ends.
+    /// A Close where a PACT that ended has accesses left, and how the next batch ends.
     fn list_pact_ended(&self, t: Tid, events: &mut Vec<Event>) -> Result<(), Memory>
         requires { IsWhole self.now.hand.now }
         ensures { OnOk result (Adds events.old.items events.new.items (closes_behind (text_of self.now.tables.now) t.0 self.now.hand.now.desk self.now.hand.now ++ next_ends self.now.desk.now self.now.next)) }

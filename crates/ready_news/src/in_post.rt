@@ -187,7 +187,7 @@ impl AtHand<'_> {
         }
     }
 
-    /// Whether whose the control of a transaction is, is given up.
+    /// Whether the control of a transaction belongs to one that is given up.
     fn is_dropped(&self, t: Tid) -> bool
         ensures { (b : Book) → Shows self.now.book.now b → result ≡ is_dropped t.0 b self.now.post.now.messages }
     {
@@ -197,7 +197,7 @@ impl AtHand<'_> {
         }
     }
 
-    /// The control of a transaction, and its drop where whose it is, is given up.
+    /// The control of a transaction, and its drop where it belongs to one that is given up.
     pub(crate) fn list_on_control(&self, t: Tid, events: &mut Vec<Event>) -> Result<(), Memory>
         requires { IsWhole self.now.hand.now }
         ensures { (b : Book) → Shows self.now.book.now b → OnOk result (Adds events.old.items events.new.items (on_control t.0 self.now.hand.now.cells b self.now.post.now.messages)) }

@@ -52,7 +52,7 @@ pub enum Look {
     /// The actor, which has followed a cascade.
     Back,
     // ---- a batch
-    /// Where the PACT, which ended, owes nothing any more, and how the next batch ends. It may be an ACT.
+    /// A Close where the PACT, which ended, has accesses left, and how the next batch ends. It may be an ACT.
     PactEnded,
     /// How the next batch ends.
     NextEnds,
