@@ -43,8 +43,9 @@ fn follow_look(at: &AtHand, names: &Names, look: Look, finds: &mut Finds) -> Res
     let news = &mut finds.news;
     match look {
         Look::Submitted => list_submit(at, names.tx, news),
-        Look::Next => list_ring(at, news),
-        Look::Admitted => list_admitted(at, news),
+        Look::Token => list_token(at, news),
+        Look::NextBatch => list_batch(at, news),
+        Look::NextAct if at.hand.has(RING) => list_act(at, news),
         Look::NextAct => {
             if frees_place(at) {
                 finds.mark_ring();
@@ -53,20 +54,21 @@ fn follow_look(at: &AtHand, names: &Names, look: Look, finds: &mut Finds) -> Res
         }
         Look::Formed => list_formed(at, names.batch, news),
         Look::Control => list_control(at.hand, names.tid, news),
-        Look::Arrived => list_arrived(at, names.batch, names.actor, news),
+        Look::Follower => list_follower(at, names.batch, names.actor, news),
+        Look::LetIn => list_let_in(at, names.batch, names.actor, news),
         Look::Placed => push_one(news, Event::Run(names.tid, names.actor)),
-        Look::Sliced => list_outcome(at, names.tid, names.actor, news),
+        Look::Left => list_left(at, names.tid, names.actor, news),
         Look::Woken => list_wakes(at, names.actor, news),
         Look::Trimmed => list_gone(at, names.batch, news),
         Look::Back => list_back(at, names.actor, news),
-        Look::PactEnded => list_pact_ended(at, names.tid, names.actor, news),
+        Look::Closes => list_close(at, names.tid, names.actor, news),
         Look::NextEnds => list_ends(at, news),
         Look::Noted => list_noted(at.hand, names.batch, news),
         Look::Committed => list_committed(at.tables, names.batch, news),
         Look::Trims => list_trims(at, names.batch, news),
         Look::Answers => list_answers(at, names.batch, news),
         Look::Aborted => list_aborted(at, names.batch, news),
-        Look::ActEnded => list_act_ended(at, names.tid, news),
+        Look::Preparing => list_preparing(at, names.tid, news),
         Look::Deciding => list_vouched(at.hand, names.tid, news),
         Look::Decisions => {
             finds.mark_book(at.tables.work.logs);
@@ -75,10 +77,10 @@ fn follow_look(at: &AtHand, names: &Names, look: Look, finds: &mut Finds) -> Res
         Look::Over => list_over(at, names.tid, news),
         // A log is synced for all that waits there, not for each record.
         Look::BatchLog | Look::ActLog | Look::ActorLog => Ok(()),
-        // The ring is not at hand where a batch has left an actor: `Trimmed` tells of the next one.
-        Look::NextBatch => Ok(()),
         // The post is not at hand where an ACT has left an actor, or an actor has followed a cascade.
-        Look::Again | Look::Coming => Ok(()),
+        Look::Again | Look::Arrivals | Look::Comings => Ok(()),
+        // Seldom may anything go on where a batch has just arrived.
+        Look::Arrived | Look::Late => Ok(()),
         // `Over` lists these.
         Look::Leaving => Ok(()),
         // Few fall. A look finds them.
@@ -206,40 +208,45 @@ fn on_ring(hand: &Hand) -> Option<&Ring> {
     }
 }
 
-/// What the ring has next, but the next transaction: the token goes on, the next batch is formed, and the next ACT is admitted, where there
-/// may be one more as far as the parts at hand tell.
+/// The token goes on, where nothing waits at its holder.
+fn list_token(at: &AtHand, events: &mut Vec<Event>) -> Result<(), Memory>
+    requires { AreTables at.now.tables.now }
+{
+    match on_ring(at.hand) {
+        Some(ring) if ring.is_holder_idle() => {
+            push_one(events, Event::Pass(next_holder(at.tables, ring.holder())))
+        }
+        Some(_) | None => Ok(()),
+    }
+}
+
+/// The next batch is formed, where there may be one more as far as the parts at hand tell.
+fn list_batch(at: &AtHand, events: &mut Vec<Event>) -> Result<(), Memory> {
+    match on_ring(at.hand) {
+        Some(ring) if ring.has_pact() && has_place_for_batch(at) => {
+            push_one(events, Event::Form(ring.next_bid()))
+        }
+        Some(_) | None => Ok(()),
+    }
+}
+
+/// The next ACT is admitted, where there may be one more as far as the parts at hand tell.
+fn list_act(at: &AtHand, events: &mut Vec<Event>) -> Result<(), Memory> {
+    match on_ring(at.hand) {
+        Some(ring) if ring.has_act() && has_place_for_act(at) => {
+            push_one(events, Event::Admit(ring.next_tid()))
+        }
+        Some(_) | None => Ok(()),
+    }
+}
+
+/// What the ring has next, but the next transaction.
 fn list_ring(at: &AtHand, events: &mut Vec<Event>) -> Result<(), Memory>
     requires { AreTables at.now.tables.now }
 {
-    let Some(ring) = on_ring(at.hand) else {
-        return Ok(());
-    };
-    if ring.is_holder_idle() {
-        push_one(events, Event::Pass(next_holder(at.tables, ring.holder())))?;
-    }
-    if ring.has_pact() && has_place_for_batch(at) {
-        push_one(events, Event::Form(ring.next_bid()))?;
-    }
-    if ring.has_act() && has_place_for_act(at) {
-        push_one(events, Event::Admit(ring.next_tid()))?;
-    }
-    Ok(())
-}
-
-/// The token goes on behind an ACT that was admitted, and the next one is admitted.
-fn list_admitted(at: &AtHand, events: &mut Vec<Event>) -> Result<(), Memory>
-    requires { AreTables at.now.tables.now }
-{
-    let Some(ring) = on_ring(at.hand) else {
-        return Ok(());
-    };
-    if ring.is_holder_idle() {
-        push_one(events, Event::Pass(next_holder(at.tables, ring.holder())))?;
-    }
-    if ring.has_act() && has_place_for_act(at) {
-        push_one(events, Event::Admit(ring.next_tid()))?;
-    }
-    Ok(())
+    list_token(at, events)?;
+    list_batch(at, events)?;
+    list_act(at, events)
 }
 
 /// How many batches are begun at a time: as many as may be live, where slices take long. Else one more than there are logs: while one is
@@ -336,8 +343,8 @@ pub fn list_refused(e: Event, events: &mut Vec<Event>) -> Result<(), Memory> {
     }
 }
 
-/// The sub-batch that follows this one to the actor comes there, and the controls of its PACTs.
-fn list_arrived(at: &AtHand, k: Bid, a: ActorId, events: &mut Vec<Event>) -> Result<(), Memory> {
+/// The sub-batch that follows this one to the actor comes there.
+fn list_follower(at: &AtHand, k: Bid, a: ActorId, events: &mut Vec<Event>) -> Result<(), Memory> {
     let Some(post) = on_post(at.hand) else {
         return Ok(());
     };
@@ -347,6 +354,14 @@ fn list_arrived(at: &AtHand, k: Bid, a: ActorId, events: &mut Vec<Event>) -> Res
             Some(_) | None => {}
         }
     }
+    Ok(())
+}
+
+/// The controls of the batch's PACTs that go to the actor come there.
+fn list_let_in(at: &AtHand, k: Bid, a: ActorId, events: &mut Vec<Event>) -> Result<(), Memory> {
+    let Some(post) = on_post(at.hand) else {
+        return Ok(());
+    };
     let Some(cell) = on_cell(at.hand, a) else {
         return Ok(());
     };
@@ -390,7 +405,7 @@ fn list_wakes(at: &AtHand, a: ActorId, events: &mut Vec<Event>) -> Result<(), Me
 }
 
 /// The control goes on behind the slice, or the transaction ends.
-fn list_outcome(at: &AtHand, t: Tid, a: ActorId, events: &mut Vec<Event>) -> Result<(), Memory> {
+fn list_left(at: &AtHand, t: Tid, a: ActorId, events: &mut Vec<Event>) -> Result<(), Memory> {
     let Some(cell) = on_cell(at.hand, a) else {
         return Ok(());
     };
@@ -400,23 +415,19 @@ fn list_outcome(at: &AtHand, t: Tid, a: ActorId, events: &mut Vec<Event>) -> Res
     if cell.has_ended(t) {
         push_one(events, Event::End(t, a))?;
     }
-    list_wakes(at, a, events)
+    Ok(())
 }
 
-/// Where a PACT ended on the actor, it owes the actor nothing more, and the next batch may end.
-fn list_pact_ended(at: &AtHand, t: Tid, a: ActorId, events: &mut Vec<Event>) -> Result<(), Memory> {
+/// A PACT that ended on the actor owes it nothing more.
+fn list_close(at: &AtHand, t: Tid, a: ActorId, events: &mut Vec<Event>) -> Result<(), Memory> {
     match on_book(at.hand) {
-        Some(book) if book.tx_of(t).is_none() => {
-            push_one(events, Event::Close(t, a))?;
-            list_ends(at, events)
-        }
+        Some(book) if book.tx_of(t).is_none() => push_one(events, Event::Close(t, a)),
         Some(_) | None => Ok(()),
     }
 }
 
-/// Where an ACT ended, it is decided, or prepared on its actors.
-fn list_act_ended(at: &AtHand, t: Tid, events: &mut Vec<Event>) -> Result<(), Memory> {
-    list_vouched(at.hand, t, events)?;
+/// An ACT that gives a value is prepared on its actors.
+fn list_preparing(at: &AtHand, t: Tid, events: &mut Vec<Event>) -> Result<(), Memory> {
     match on_book(at.hand) {
         Some(book) if book.has_value(t) => push_each(
             events,

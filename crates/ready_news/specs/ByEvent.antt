@@ -3,7 +3,7 @@ use Rattle.std.specs.Prelude.{ℕ, Bool, true, false, Option, List, [], ◌∷�
 use Rattle.std.specs.List.{flat_map}
 use Rattle.aml_slice.specs.Controls.{Rest}
 use Rattle.book_part.specs.Listed.{live_tids}
-use Rattle.protocol.specs.Events.{Event, Arrive, Ask, DropControl, Run, Settle}
+use Rattle.protocol.specs.Events.{Event, Ask, DropControl, Run, Settle}
 use Rattle.protocol.specs.Fixed.{Text}
 use Rattle.protocol.specs.Parts.{Book, Desk, Post, Ring}
 use Rattle.protocol.specs.Words.{below}
@@ -13,13 +13,13 @@ use Rattle.snap_hand.specs.Hands.{Parts}
 use Rattle.ready_news.specs.GivenUp.{given_up_tids, may_have_acts}
 use Rattle.ready_news.specs.InAnswers.{of_later, of_over, of_tx, of_txs}
 use Rattle.ready_news.specs.InBook.{deciding_of, leaving_of, only, preparing_of}
-use Rattle.ready_news.specs.InCells.{closes_behind, of_shown, on_changed, wakes}
+use Rattle.ready_news.specs.InCells.{closes_behind, late_by, left_by, of_shown, wakes}
 use Rattle.ready_news.specs.InDesk.{commit_of, next_ends, trims_of}
-use Rattle.ready_news.specs.InPost.{all_to, arrived_listed, formed_listed, goes_to, on_control}
-use Rattle.ready_news.specs.InRing.{added_to, admits_any, all_next, forms_any, passes, submitted_listed}
+use Rattle.ready_news.specs.InPost.{arrivals_to, comings_to, followers, formed_listed, goes_to, on_control, takes_by}
+use Rattle.ready_news.specs.InRing.{added_to, admits_any, forms_any, passes, submitted_listed}
 use Rattle.ready_news.specs.Looks.{looks_of, names_of}
 use Rattle.ready_news.specs.declared.looks.Look.{Look}
-use Rattle.ready_news.specs.declared.looks.Look.TheVariants.{Aborted, ActEnded, ActLog, ActorLog, Admitted, Again, Answers, Arrived, Back, BatchLog, Coming, Committed, Control, Deciding, Decisions, Fallen, Formed, GivenUp, Leaving, Next, NextAct, NextBatch, NextEnds, Noted, Over, PactEnded, Placed, Sliced, Submitted, Trimmed, Trims, Woken}
+use Rattle.ready_news.specs.declared.looks.Look.TheVariants.{Aborted, ActLog, ActorLog, Again, Answers, Arrivals, Arrived, Back, BatchLog, Closes, Comings, Committed, Control, Deciding, Decisions, Fallen, Follower, Formed, GivenUp, Late, Leaving, Left, LetIn, NextAct, NextBatch, NextEnds, Noted, Over, Placed, Preparing, Submitted, Token, Trimmed, Trims, Woken}
 use Rattle.ready_news.specs.declared.looks.Names.{Names}
 
 -- ---- of an ACT that is given up: its control may be dropped, it may leave its actors, and its reply is due
@@ -35,11 +35,6 @@ abbrev pub of_all_gone_if : Bool → Book → List Event
 of_all_gone_if true b = of_all_gone b
 of_all_gone_if false b = []
 
--- ---- of the actor at which the event changes what may go on, where there is such an actor
-
-abbrev pub at_actor : Event → ℕ → Parts → List Event
-at_actor e a h = of_shown (on_changed e h.desk a) (slice_get h.cells a)
-
 -- ---- of all that waits, where batch k and those behind it are aborted
 
 module _ (w : Text) (h : Parts) (r : Ring) (b : Book) (p : Post Rest) (d : Desk) where
@@ -53,8 +48,7 @@ module _ (w : Text) (h : Parts) (next : Option Bid) (r : Ring) (b : Book) (p : P
   module _ (c : Names) where
     abbrev pub of_look : Look → List Event
     of_look Submitted = submitted_listed c.tx.0 w d b r
-    of_look Next = all_next w d b r
-    of_look Admitted = passes w.coordinators r ++ admits_any w b r
+    of_look Token = passes w.coordinators r
     of_look NextBatch = forms_any w d r
     of_look NextAct = admits_any w b r
     of_look BatchLog = added_to w.logs h.logs c.batch.0
@@ -63,26 +57,30 @@ module _ (w : Text) (h : Parts) (next : Option Bid) (r : Ring) (b : Book) (p : P
     of_look Formed = formed_listed c.batch.0 d
     of_look Control = on_control c.tid.0 h.cells b p
     of_look Again = only (goes_to c.tid.0 c.actor.0 p) (Ask c.tid.0 c.actor.0)
-    of_look Coming = all_to c.actor.0 p
-    of_look Arrived = at_actor (Arrive c.batch.0 c.actor.0) c.actor.0 h ++ arrived_listed c.batch.0 c.actor.0 h.cells p
-    of_look Fallen = admits_any w b r ++ of_all_gone_if (may_have_acts (slice_get h.cells c.actor.0)) b
+    of_look Arrivals = arrivals_to c.actor.0 p
+    of_look Comings = comings_to c.actor.0 p
+    of_look Follower = followers c.batch.0 c.actor.0 p
+    of_look LetIn = takes_by c.batch.0 c.actor.0 (slice_get h.cells c.actor.0) p
+    of_look Arrived = of_shown (wakes c.actor.0) (slice_get h.cells c.actor.0)
+    of_look Late = of_shown (late_by c.batch.0 c.actor.0 h.desk) (slice_get h.cells c.actor.0)
     of_look Placed = Run c.tid.0 c.actor.0 ∷ []
-    of_look Sliced = at_actor (Run c.tid.0 c.actor.0) c.actor.0 h
+    of_look Left = of_shown (left_by c.tid.0 c.actor.0) (slice_get h.cells c.actor.0)
     of_look Woken = of_shown (wakes c.actor.0) (slice_get h.cells c.actor.0)
     of_look Trimmed = of_shown (wakes c.actor.0) (slice_get h.cells c.actor.0)
     of_look Back = on_place h c.actor.0
-    of_look PactEnded = closes_behind w c.tid.0 h.desk h ++ next_ends d next
+    of_look Closes = closes_behind w c.tid.0 h.desk h
     of_look NextEnds = next_ends d next
     of_look Noted = commit_of d c.batch.0
     of_look Committed = Settle c.batch.0 ∷ []
     of_look Trims = trims_of d c.batch.0
     of_look Answers = of_txs d c.batch.0
     of_look Aborted = flat_map (λ xs. xs) (aborted_lists w h r b p d c.batch.0)
-    of_look ActEnded = deciding_of b c.tid.0 ++ preparing_of b c.tid.0
+    of_look Preparing = preparing_of b c.tid.0
     of_look Deciding = deciding_of b c.tid.0
     of_look Decisions = flat_map (deciding_of b) (live_tids b)
     of_look Leaving = leaving_of b c.tid.0
     of_look Over = of_over b c.tid.0
+    of_look Fallen = of_all_gone_if (may_have_acts (slice_get h.cells c.actor.0)) b
     of_look GivenUp = of_all_gone b
 
   -- by the event

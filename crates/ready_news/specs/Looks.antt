@@ -2,29 +2,29 @@
 use Rattle.std.specs.Prelude.{ℕ, List, [], ◌∷◌}
 use Rattle.protocol.specs.Events.{Event, Submit, Pass, Form, Admit, Arrive, Ask, Take, Run, Send, End, Close, Complete, Sync, Note, Commit, Settle, Abort, Rollback, DropSub, DropControl, Prepare, Vouch, Decide, Seal, Finish, Reply, Trim}
 use Rattle.ready_news.specs.declared.looks.Look.{Look}
-use Rattle.ready_news.specs.declared.looks.Look.TheVariants.{Aborted, ActEnded, ActLog, ActorLog, Admitted, Again, Answers, Arrived, Back, BatchLog, Coming, Committed, Control, Deciding, Decisions, Fallen, Formed, GivenUp, Leaving, Next, NextAct, NextBatch, NextEnds, Noted, Over, PactEnded, Placed, Sliced, Submitted, Trimmed, Trims, Woken}
+use Rattle.ready_news.specs.declared.looks.Look.TheVariants.{Aborted, ActLog, ActorLog, Again, Answers, Arrivals, Arrived, Back, BatchLog, Closes, Comings, Committed, Control, Deciding, Decisions, Fallen, Follower, Formed, GivenUp, Late, Leaving, Left, LetIn, NextAct, NextBatch, NextEnds, Noted, Over, Placed, Preparing, Submitted, Token, Trimmed, Trims, Woken}
 use Rattle.ready_news.specs.declared.looks.Names.{Names}
 
 -- ---- by the event; what a Sync makes allowed is listed ahead of it
 
 abbrev pub looks_of : Event → List Look
 looks_of (Submit n) = Submitted ∷ []
-looks_of (Pass c) = Next ∷ []
-looks_of (Form k) = Formed ∷ BatchLog ∷ NextEnds ∷ Next ∷ []
-looks_of (Admit t) = Control ∷ Admitted ∷ []
-looks_of (Arrive k a) = Arrived ∷ Fallen ∷ []
+looks_of (Pass c) = Token ∷ NextBatch ∷ NextAct ∷ []
+looks_of (Form k) = Formed ∷ BatchLog ∷ NextEnds ∷ Token ∷ NextBatch ∷ NextAct ∷ []
+looks_of (Admit t) = Control ∷ Token ∷ NextAct ∷ []
+looks_of (Arrive k a) = Late ∷ Arrived ∷ Follower ∷ LetIn ∷ NextAct ∷ Fallen ∷ []
 looks_of (Ask t a) = Placed ∷ NextAct ∷ Over ∷ GivenUp ∷ []
 looks_of (Take t a) = Placed ∷ []
-looks_of (Run t a) = Sliced ∷ []
+looks_of (Run t a) = Left ∷ Woken ∷ []
 looks_of (Send t a) = Control ∷ []
-looks_of (End t a) = PactEnded ∷ ActEnded ∷ Over ∷ []
+looks_of (End t a) = Closes ∷ NextEnds ∷ Deciding ∷ Preparing ∷ Over ∷ []
 looks_of (Close t a) = Woken ∷ []
 looks_of (Complete k a) = Woken ∷ ActorLog ∷ []
 looks_of (Note k a) = Noted ∷ []
 looks_of (Commit k) = Committed ∷ BatchLog ∷ []
 looks_of (Settle k) = Trims ∷ NextEnds ∷ Answers ∷ Decisions ∷ []
 looks_of (Abort k) = Aborted ∷ []
-looks_of (Rollback a) = Back ∷ Coming ∷ []
+looks_of (Rollback a) = Back ∷ Arrivals ∷ Comings ∷ []
 looks_of (Prepare t a) = ActorLog ∷ []
 looks_of (Vouch t a) = Deciding ∷ []
 looks_of (Decide t) = ActLog ∷ NextAct ∷ Leaving ∷ Over ∷ []

@@ -43,11 +43,11 @@ impl<'a> AtHand<'a> {
 }
 
 /// Puts the event behind the others, where this is so.
-pub(crate) fn push_if(due: bool, e: Event, events: &mut Vec<Event>) -> Result<(), Memory>
-    ensures { OnOk result (Adds events.old.items events.new.items (only due (event_meant e))) }
+pub(crate) fn push_if(due: bool, e: Event, news: &mut Vec<Event>) -> Result<(), Memory>
+    ensures { OnOk result (Adds news.old.items news.new.items (only due (event_meant e))) }
 {
     if due {
-        push_one(events, e)?;
+        push_one(news, e)?;
     }
     Ok(())
 }

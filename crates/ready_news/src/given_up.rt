@@ -14,21 +14,21 @@ use snap_base::{ActorId, Memory, Tid};
 
 impl AtHand<'_> {
     /// What is listed of an ACT that is given up: its control may be dropped, it may leave its actors, and its reply is due.
-    fn list_gone(&self, t: Tid, events: &mut Vec<Event>) -> Result<(), Memory>
-        ensures { (b : Book) → Shows self.now.book.now b → OnOk result (Adds events.old.items events.new.items (of_gone b t.0)) }
+    fn list_gone(&self, t: Tid, news: &mut Vec<Event>) -> Result<(), Memory>
+        ensures { (b : Book) → Shows self.now.book.now b → OnOk result (Adds news.old.items news.new.items (of_gone b t.0)) }
     {
-        push_one(events, Event::DropControl(t))?;
-        self.list_leaving(t, events)?;
-        self.list_tx(t, events)
+        push_one(news, Event::DropControl(t))?;
+        self.list_leaving(t, news)?;
+        self.list_tx(t, news)
     }
 
     /// What is listed of the live ACTs that are given up.
-    pub(crate) fn list_all_gone(&self, events: &mut Vec<Event>) -> Result<(), Memory>
-        ensures { (b : Book) → Shows self.now.book.now b → OnOk result (Adds events.old.items events.new.items (of_all_gone b)) }
+    pub(crate) fn list_all_gone(&self, news: &mut Vec<Event>) -> Result<(), Memory>
+        ensures { (b : Book) → Shows self.now.book.now b → OnOk result (Adds news.old.items news.new.items (of_all_gone b)) }
     {
         let tids = self.book.given_up(self.alloc)?;
         for t in &tids {
-            self.list_gone(*t, events)?;
+            self.list_gone(*t, news)?;
         }
         Ok(())
     }
@@ -45,13 +45,13 @@ impl AtHand<'_> {
     }
 
     /// What is listed of the live ACTs that are given up, where one stands on the actor at which a batch has arrived; else nothing.
-    pub(crate) fn list_gone_at(&self, a: ActorId, events: &mut Vec<Event>) -> Result<(), Memory>
+    pub(crate) fn list_gone_at(&self, a: ActorId, news: &mut Vec<Event>) -> Result<(), Memory>
         requires { IsWhole self.now.hand.now }
-        ensures { (b : Book) → Shows self.now.book.now b → OnOk result (Adds events.old.items events.new.items (of_all_gone_if (may_have_acts (slice_get self.now.hand.now.cells a.0)) b)) }
+        ensures { (b : Book) → Shows self.now.book.now b → OnOk result (Adds news.old.items news.new.items (of_all_gone_if (may_have_acts (slice_get self.now.hand.now.cells a.0)) b)) }
     {
         if !self.may_have_acts(a) {
             return Ok(());
         }
-        self.list_all_gone(events)
+        self.list_all_gone(news)
     }
 }

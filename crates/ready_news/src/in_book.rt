@@ -1,5 +1,5 @@
 //! What ACTs wait for.
-ghost use Rattle.std.specs.Prelude.{◌≡◌, ◌&&◌, ◌++◌, OnOk};
+ghost use Rattle.std.specs.Prelude.{◌≡◌, ◌&&◌, OnOk};
 ghost use Rattle.std.specs.List.{flat_map};
 ghost use Rattle.book_part.specs.Halves.{Shows};
 ghost use Rattle.book_part.specs.Listed.{live_tids};
@@ -21,59 +21,47 @@ impl AtHand<'_> {
     }
 
     /// The ACT's decision, where it may be.
-    pub(crate) fn list_deciding(&self, t: Tid, events: &mut Vec<Event>) -> Result<(), Memory>
-        ensures { (b : Book) → Shows self.now.book.now b → OnOk result (Adds events.old.items events.new.items (deciding_of b t.0)) }
+    pub(crate) fn list_deciding(&self, t: Tid, news: &mut Vec<Event>) -> Result<(), Memory>
+        ensures { (b : Book) → Shows self.now.book.now b → OnOk result (Adds news.old.items news.new.items (deciding_of b t.0)) }
     {
-        push_if(self.may_decide(t), Event::Decide(t), events)
+        push_if(self.may_decide(t), Event::Decide(t), news)
     }
 
     /// The actors that are not prepared, where the ACT gives a value.
-    fn list_preparing(&self, t: Tid, events: &mut Vec<Event>) -> Result<(), Memory>
-        ensures { (b : Book) → Shows self.now.book.now b → OnOk result (Adds events.old.items events.new.items (preparing_of b t.0)) }
+    pub(crate) fn list_preparing(&self, t: Tid, news: &mut Vec<Event>) -> Result<(), Memory>
+        ensures { (b : Book) → Shows self.now.book.now b → OnOk result (Adds news.old.items news.new.items (preparing_of b t.0)) }
     {
         if !self.book.has_value(t) {
             return Ok(());
         }
         let actors = self.book.actors_of(self.alloc, t)?;
         for a in &actors {
-            push_if(
-                self.book.is_unprepared(t, *a),
-                Event::Prepare(t, *a),
-                events,
-            )?;
+            push_if(self.book.is_unprepared(t, *a), Event::Prepare(t, *a), news)?;
         }
         Ok(())
     }
 
     /// The actors that the ACT has not left, where it may.
-    pub(crate) fn list_leaving(&self, t: Tid, events: &mut Vec<Event>) -> Result<(), Memory>
-        ensures { (b : Book) → Shows self.now.book.now b → OnOk result (Adds events.old.items events.new.items (leaving_of b t.0)) }
+    pub(crate) fn list_leaving(&self, t: Tid, news: &mut Vec<Event>) -> Result<(), Memory>
+        ensures { (b : Book) → Shows self.now.book.now b → OnOk result (Adds news.old.items news.new.items (leaving_of b t.0)) }
     {
         if !self.book.may_leave(t) {
             return Ok(());
         }
         let actors = self.book.actors_of(self.alloc, t)?;
         for a in &actors {
-            push_if(self.book.stands_on(t, *a), Event::Finish(t, *a), events)?;
+            push_if(self.book.stands_on(t, *a), Event::Finish(t, *a), news)?;
         }
         Ok(())
     }
 
-    /// What an ACT that ended goes on with.
-    pub(crate) fn list_ended(&self, t: Tid, events: &mut Vec<Event>) -> Result<(), Memory>
-        ensures { (b : Book) → Shows self.now.book.now b → OnOk result (Adds events.old.items events.new.items (deciding_of b t.0 ++ preparing_of b t.0)) }
-    {
-        self.list_deciding(t, events)?;
-        self.list_preparing(t, events)
-    }
-
     /// The decisions of the live ACTs.
-    pub(crate) fn list_decisions(&self, events: &mut Vec<Event>) -> Result<(), Memory>
-        ensures { (b : Book) → Shows self.now.book.now b → OnOk result (Adds events.old.items events.new.items (flat_map (deciding_of b) (live_tids b))) }
+    pub(crate) fn list_decisions(&self, news: &mut Vec<Event>) -> Result<(), Memory>
+        ensures { (b : Book) → Shows self.now.book.now b → OnOk result (Adds news.old.items news.new.items (flat_map (deciding_of b) (live_tids b))) }
     {
         let tids = self.book.going(self.alloc)?;
         for t in &tids {
-            self.list_deciding(*t, events)?;
+            self.list_deciding(*t, news)?;
         }
         Ok(())
     }

@@ -19,41 +19,38 @@ impl AtHand<'_> {
     }
 
     /// The commit of the batch, where its PACTs and its actors let it commit.
-    pub(crate) fn list_commit(&self, k: Bid, events: &mut Vec<Event>) -> Result<(), Memory>
-        ensures { OnOk result (Adds events.old.items events.new.items (commit_of self.now.desk.now k.0)) }
+    pub(crate) fn list_commit(&self, k: Bid, news: &mut Vec<Event>) -> Result<(), Memory>
+        ensures { OnOk result (Adds news.old.items news.new.items (commit_of self.now.desk.now k.0)) }
     {
-        push_if(self.is_done(k), Event::Commit(k), events)
+        push_if(self.is_done(k), Event::Commit(k), news)
     }
 
     /// How the batch may end: by its commit, or where a PACT of it failed and all before that one ended with a value.
-    fn list_ends(&self, k: Bid, events: &mut Vec<Event>) -> Result<(), Memory>
-        ensures { OnOk result (Adds events.old.items events.new.items (ends_of self.now.desk.now k.0)) }
+    fn list_ends(&self, k: Bid, news: &mut Vec<Event>) -> Result<(), Memory>
+        ensures { OnOk result (Adds news.old.items news.new.items (ends_of self.now.desk.now k.0)) }
     {
-        self.list_commit(k, events)?;
-        push_if(
-            self.desk.first_failed(k).is_some(),
-            Event::AbortBatch(k),
-            events,
-        )
+        self.list_commit(k, news)?;
+        let failed = self.desk.first_failed(k);
+        push_if(failed.is_some(), Event::AbortBatch(k), news)
     }
 
     /// How the next batch may end.
-    pub(crate) fn list_next_ends(&self, events: &mut Vec<Event>) -> Result<(), Memory>
-        ensures { OnOk result (Adds events.old.items events.new.items (next_ends self.now.desk.now self.now.next)) }
+    pub(crate) fn list_next_ends(&self, news: &mut Vec<Event>) -> Result<(), Memory>
+        ensures { OnOk result (Adds news.old.items news.new.items (next_ends self.now.desk.now self.now.next)) }
     {
         match self.next {
-            Some(k) => self.list_ends(k, events),
+            Some(k) => self.list_ends(k, news),
             None => Ok(()),
         }
     }
 
     /// That the batch leaves its actors.
-    pub(crate) fn list_trims(&self, k: Bid, events: &mut Vec<Event>) -> Result<(), Memory>
-        ensures { OnOk result (Adds events.old.items events.new.items (trims_of self.now.desk.now k.0)) }
+    pub(crate) fn list_trims(&self, k: Bid, news: &mut Vec<Event>) -> Result<(), Memory>
+        ensures { OnOk result (Adds news.old.items news.new.items (trims_of self.now.desk.now k.0)) }
     {
         let actors = self.desk.actors_of(self.alloc, k)?;
         for a in &actors {
-            push_one(events, Event::Trim(k, *a))?;
+            push_one(news, Event::Trim(k, *a))?;
         }
         Ok(())
     }

@@ -1,12 +1,12 @@
 //! What the ring has next, and the logs.
-ghost use Rattle.std.specs.Prelude.{◌≡◌, ◌%◌, ◌++◌, ◌≤◌, slice_get, OnOk};
+ghost use Rattle.std.specs.Prelude.{◌≡◌, ◌%◌, ◌≤◌, slice_get, OnOk};
 ghost use Rattle.book_part.specs.Halves.{Shows};
 ghost use Rattle.ready_listing.specs.Listed.{Adds};
 ghost use Rattle.protocol.specs.Conditions.{has_room_for_act, has_room_for_batch};
 ghost use Rattle.protocol.specs.Parts.{Book};
 ghost use Rattle.snap_hand.specs.Hands.{IsWhole};
 ghost use Rattle.snap_hand.specs.Tables.{AreTables, text_of};
-ghost use Rattle.ready_news.specs.InRing.{added_to, admits, admits_any, all_next, forms, forms_any, is_first, is_lone_in, passes, submitted_listed};
+ghost use Rattle.ready_news.specs.InRing.{added_to, admits, admits_any, forms, forms_any, is_first, is_lone_in, passes, submitted_listed};
 
 use crate::at_hand::{AtHand, push_if};
 use core_events::Event;
@@ -46,84 +46,59 @@ impl AtHand<'_> {
     }
 
     /// The next batch, where such a PACT waits and one more batch may be live.
-    fn list_form(&self, waits: bool, events: &mut Vec<Event>) -> Result<(), Memory>
-        ensures { OnOk result (Adds events.old.items events.new.items (forms waits (text_of self.now.tables.now) self.now.desk.now self.now.ring.now)) }
+    fn list_form(&self, waits: bool, news: &mut Vec<Event>) -> Result<(), Memory>
+        ensures { OnOk result (Adds news.old.items news.new.items (forms waits (text_of self.now.tables.now) self.now.desk.now self.now.ring.now)) }
     {
         if !waits {
             return Ok(());
         }
-        push_if(
-            self.has_room_for_batch(),
-            Event::Form(self.ring.next_bid()),
-            events,
-        )
+        let next = self.ring.next_bid();
+        push_if(self.has_room_for_batch(), Event::Form(next), news)
     }
 
     /// The next ACT, where such a one waits and one more may be live.
-    fn list_admit(&self, waits: bool, events: &mut Vec<Event>) -> Result<(), Memory>
-        ensures { (b : Book) → Shows self.now.book.now b → OnOk result (Adds events.old.items events.new.items (admits waits (text_of self.now.tables.now) b self.now.ring.now)) }
+    fn list_admit(&self, waits: bool, news: &mut Vec<Event>) -> Result<(), Memory>
+        ensures { (b : Book) → Shows self.now.book.now b → OnOk result (Adds news.old.items news.new.items (admits waits (text_of self.now.tables.now) b self.now.ring.now)) }
     {
         if !waits {
             return Ok(());
         }
-        push_if(
-            self.has_room_for_act(),
-            Event::Admit(self.ring.next_tid()),
-            events,
-        )
+        let next = self.ring.next_tid();
+        push_if(self.has_room_for_act(), Event::Admit(next), news)
     }
 
     /// The next batch, where a PACT waits at the holder and one more batch may be live.
-    pub(crate) fn list_form_any(&self, events: &mut Vec<Event>) -> Result<(), Memory>
-        ensures { OnOk result (Adds events.old.items events.new.items (forms_any (text_of self.now.tables.now) self.now.desk.now self.now.ring.now)) }
+    pub(crate) fn list_form_any(&self, news: &mut Vec<Event>) -> Result<(), Memory>
+        ensures { OnOk result (Adds news.old.items news.new.items (forms_any (text_of self.now.tables.now) self.now.desk.now self.now.ring.now)) }
     {
-        self.list_form(self.ring.has_pact(), events)
+        self.list_form(self.ring.has_pact(), news)
     }
 
     /// The next ACT, where one waits at the holder and may be live.
-    pub(crate) fn list_admit_any(&self, events: &mut Vec<Event>) -> Result<(), Memory>
-        ensures { (b : Book) → Shows self.now.book.now b → OnOk result (Adds events.old.items events.new.items (admits_any (text_of self.now.tables.now) b self.now.ring.now)) }
+    pub(crate) fn list_admit_any(&self, news: &mut Vec<Event>) -> Result<(), Memory>
+        ensures { (b : Book) → Shows self.now.book.now b → OnOk result (Adds news.old.items news.new.items (admits_any (text_of self.now.tables.now) b self.now.ring.now)) }
     {
-        self.list_admit(self.ring.has_act(), events)
+        self.list_admit(self.ring.has_act(), news)
     }
 
     /// The token, where it may go on.
-    fn list_pass(&self, events: &mut Vec<Event>) -> Result<(), Memory>
+    pub(crate) fn list_pass(&self, news: &mut Vec<Event>) -> Result<(), Memory>
         requires { AreTables self.now.tables.now }
-        ensures { OnOk result (Adds events.old.items events.new.items (passes (text_of self.now.tables.now).coordinators self.now.ring.now)) }
+        ensures { OnOk result (Adds news.old.items news.new.items (passes (text_of self.now.tables.now).coordinators self.now.ring.now)) }
     {
         let next = next_holder(self.tables, self.ring.holder());
-        push_if(self.ring.is_holder_idle(), Event::Pass(next), events)
+        push_if(self.ring.is_holder_idle(), Event::Pass(next), news)
     }
 
     /// What may be next after the submission of a transaction.
-    pub(crate) fn list_submitted(&self, n: TxNo, events: &mut Vec<Event>) -> Result<(), Memory>
+    pub(crate) fn list_submitted(&self, n: TxNo, news: &mut Vec<Event>) -> Result<(), Memory>
         requires { AreTables self.now.tables.now }
-        ensures { (b : Book) → Shows self.now.book.now b → OnOk result (Adds events.old.items events.new.items (submitted_listed n.0 (text_of self.now.tables.now) self.now.desk.now b self.now.ring.now)) }
+        ensures { (b : Book) → Shows self.now.book.now b → OnOk result (Adds news.old.items news.new.items (submitted_listed n.0 (text_of self.now.tables.now) self.now.desk.now b self.now.ring.now)) }
     {
-        push_one(events, Event::Submit(self.ring.next_tx()))?;
-        self.list_pass(events)?;
-        self.list_form(is_first(n, self.ring.first_pact()), events)?;
-        self.list_admit(is_first(n, self.ring.first_act()), events)
-    }
-
-    /// What may be next where the token went on, or a batch was formed.
-    pub(crate) fn list_all_next(&self, events: &mut Vec<Event>) -> Result<(), Memory>
-        requires { AreTables self.now.tables.now }
-        ensures { (b : Book) → Shows self.now.book.now b → OnOk result (Adds events.old.items events.new.items (all_next (text_of self.now.tables.now) self.now.desk.now b self.now.ring.now)) }
-    {
-        self.list_pass(events)?;
-        self.list_form_any(events)?;
-        self.list_admit_any(events)
-    }
-
-    /// What may be next after the admission of an ACT.
-    pub(crate) fn list_admitted(&self, events: &mut Vec<Event>) -> Result<(), Memory>
-        requires { AreTables self.now.tables.now }
-        ensures { (b : Book) → Shows self.now.book.now b → OnOk result (Adds events.old.items events.new.items (passes (text_of self.now.tables.now).coordinators self.now.ring.now ++ admits_any (text_of self.now.tables.now) b self.now.ring.now)) }
-    {
-        self.list_pass(events)?;
-        self.list_admit_any(events)
+        push_one(news, Event::Submit(self.ring.next_tx()))?;
+        self.list_pass(news)?;
+        self.list_form(is_first(n, self.ring.first_pact()), news)?;
+        self.list_admit(is_first(n, self.ring.first_act()), news)
     }
 
     /// Whether one record alone waits in a log; also where there is no such log.
@@ -138,12 +113,12 @@ impl AtHand<'_> {
     }
 
     /// The log to which records about this number were added, where none waited there before.
-    pub(crate) fn list_added(&self, number: u64, events: &mut Vec<Event>) -> Result<(), Memory>
+    pub(crate) fn list_added(&self, number: u64, news: &mut Vec<Event>) -> Result<(), Memory>
         requires tables { AreTables self.now.tables.now }
         requires whole { IsWhole self.now.hand.now }
-        ensures { OnOk result (Adds events.old.items events.new.items (added_to (text_of self.now.tables.now).logs self.now.hand.now.logs number)) }
+        ensures { OnOk result (Adds news.old.items news.new.items (added_to (text_of self.now.tables.now).logs self.now.hand.now.logs number)) }
     {
         let l = log_at(number, self.tables.work.logs);
-        push_if(self.is_lone(l), Event::Sync(l), events)
+        push_if(self.is_lone(l), Event::Sync(l), news)
     }
 }

@@ -13,13 +13,11 @@ pub enum Look {
     // ---- the ring, and the logs
     /// What is next, where the transaction has joined its queue.
     Submitted,
-    /// The token, the next batch and the next ACT.
-    Next,
-    /// The token and the next ACT, where one was admitted.
-    Admitted,
-    /// The next batch: there may be a place for it.
+    /// The token: nothing may wait at its holder.
+    Token,
+    /// The next batch: one may wait, or there may be a place for it.
     NextBatch,
-    /// The next ACT: there may be a place for it.
+    /// The next ACT: one may wait, or there may be a place for it.
     NextAct,
     /// The log to which a record of the batch was added.
     BatchLog,
@@ -34,17 +32,23 @@ pub enum Look {
     Control,
     /// Whether the control of the ACT, which has left the actor, goes there again.
     Again,
-    /// What goes to the actor.
-    Coming,
+    /// The sub-batches that go to the actor.
+    Arrivals,
+    /// The controls that go to the actor.
+    Comings,
+    /// The sub-batch that goes to the actor behind the batch, which has arrived there.
+    Follower,
+    /// The controls that go to the actor and are of the batch, which has arrived there.
+    LetIn,
     // ---- an actor
-    /// The actor, where the batch has arrived, and what waited for that on its way there.
+    /// The actor, where the batch has arrived.
     Arrived,
-    /// The ACTs: some may have fallen at the actor, where a batch has arrived.
-    Fallen,
+    /// The PACTs of the batch, which has arrived at the actor: some may have ended before.
+    Late,
     /// The transaction, whose control has come to the actor.
     Placed,
-    /// The actor, where a slice of the transaction has run.
-    Sliced,
+    /// What a slice of the transaction has left on the actor.
+    Left,
     /// The actor, where others may go on.
     Woken,
     /// The actor, which the batch has left.
@@ -52,8 +56,8 @@ pub enum Look {
     /// The actor, which has followed a cascade.
     Back,
     // ---- a batch
-    /// A Close where the PACT, which ended, has accesses left, and how the next batch ends. It may be an ACT.
-    PactEnded,
+    /// The actors where the PACT, which ended, has accesses left. It may be an ACT.
+    Closes,
     /// How the next batch ends.
     NextEnds,
     /// Whether the batch commits.
@@ -67,9 +71,9 @@ pub enum Look {
     /// All that waits, where the batch and those behind it are aborted.
     Aborted,
     // ---- ACTs
-    /// Whether the ACT, which ended, is decided, and prepared on its actors. It may be a PACT.
-    ActEnded,
-    /// Whether the ACT is decided.
+    /// Whether the ACT is prepared on its actors. It may be a PACT.
+    Preparing,
+    /// Whether the ACT is decided. It may be a PACT.
     Deciding,
     /// Whether any ACT is decided.
     Decisions,
@@ -77,6 +81,8 @@ pub enum Look {
     Leaving,
     /// The reply of the ACT's transaction.
     Over,
+    /// The ACTs that are given up: some may have fallen at the actor, where a batch has arrived.
+    Fallen,
     /// The ACTs that are given up.
     GivenUp,
 }
@@ -97,21 +103,41 @@ pub fn looks_of(e: Event) -> &'static [Look]
     match e {
         // By the ring.
         Event::Submit(_) => &[Look::Submitted],
-        Event::Pass(_) => &[Look::Next],
-        Event::Form(_) => &[Look::Formed, Look::BatchLog, Look::NextEnds, Look::Next],
-        Event::Admit(_) => &[Look::Control, Look::Admitted],
+        Event::Pass(_) => &[Look::Token, Look::NextBatch, Look::NextAct],
+        Event::Form(_) => &[
+            Look::Formed,
+            Look::BatchLog,
+            Look::NextEnds,
+            Look::Token,
+            Look::NextBatch,
+            Look::NextAct,
+        ],
+        Event::Admit(_) => &[Look::Control, Look::Token, Look::NextAct],
         // On an actor.
-        Event::Arrive(_, _) => &[Look::Arrived, Look::Fallen],
+        Event::Arrive(_, _) => &[
+            Look::Late,
+            Look::Arrived,
+            Look::Follower,
+            Look::LetIn,
+            Look::NextAct,
+            Look::Fallen,
+        ],
         Event::Ask(_, _) => &[Look::Placed, Look::NextAct, Look::Over, Look::GivenUp],
         Event::Take(_, _) => &[Look::Placed],
-        Event::Run(_, _) => &[Look::Sliced],
+        Event::Run(_, _) => &[Look::Left, Look::Woken],
         Event::Send(_, _) => &[Look::Control],
-        Event::End(_, _) => &[Look::PactEnded, Look::ActEnded, Look::Over],
+        Event::End(_, _) => &[
+            Look::Closes,
+            Look::NextEnds,
+            Look::Deciding,
+            Look::Preparing,
+            Look::Over,
+        ],
         Event::Close(_, _) => &[Look::Woken],
         Event::Complete(_, _) => &[Look::Woken, Look::ActorLog],
         Event::Prepare(_, _) => &[Look::ActorLog],
         Event::Finish(_, _) => &[Look::Woken, Look::Again, Look::NextAct],
-        Event::Rollback(_) => &[Look::Back, Look::Coming],
+        Event::Rollback(_) => &[Look::Back, Look::Arrivals, Look::Comings],
         // Of a batch.
         Event::Note(_, _) => &[Look::Noted],
         Event::Commit(_) => &[Look::Committed, Look::BatchLog],

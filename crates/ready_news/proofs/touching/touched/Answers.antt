@@ -32,7 +32,7 @@ returns c s behind ahead =
     let z = after w e s in
     let fits = behind.fits in
     let next = c.next.result in
-    let es = map event_meant c.list_by_event.new.events.items in
+    let es = map event_meant c.list_by_event.new.news.items in
     let x = c.book.result.now in
     let shows = fits.book x c.book.ensures in
     let is_desk = sym (fits.desk c.desk-desk.result.now c.desk-desk.ensures) in
@@ -40,7 +40,7 @@ returns c s behind ahead =
     subst (λ r. Among (listed w.text h next r z.book z.post z.desk e) es) (sym (fits.ring c.ring.result.now c.ring.ensures))
     (subst (λ p. Among (listed w.text h next c.ring.result.now z.book p z.desk e) es) (sym (fits.post c.post.result.now.messages c.post.ensures))
     (subst (λ d. Among (listed w.text h next c.ring.result.now z.book c.post.result.now.messages d e) es) is_desk
-    (has_added c.clear.new.self.items c.list_by_event.new.events.items (listed w.text h next c.ring.result.now z.book c.post.result.now.messages c.desk-desk.result.now e) (c.in_ok-list_by_event.ensures z.book shows)))) in
+    (has_added c.clear.new.self.items c.list_by_event.new.news.items (listed w.text h next c.ring.result.now z.book c.post.result.now.messages c.desk-desk.result.now e) (c.in_ok-list_by_event.ensures z.book shows)))) in
     let nexts : (k : ℕ) → is_next_open k z.desk.batches ≡ is_number k next = subst (λ (d : Desk). (k : ℕ) → is_next_open k d.batches ≡ is_number k next) is_desk c.next.ensures in
     let other = sym c.is_sync.ensures ∙ c.if-is_sync.false in
     record {

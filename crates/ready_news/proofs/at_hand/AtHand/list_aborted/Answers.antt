@@ -20,11 +20,11 @@ returns c b s =
     let d = at.desk.now in
     let k = c.args.k.0 in
     let cells = flat_map (on_place h) (below (length h.cells)) in
-    let end = c.list_all_gone.new.events.items in
+    let end = c.list_all_gone.new.news.items in
     let done = c.list_all_gone.result in
-    let gone = subst (λ v. OnOk done (Adds c.list_later.new.events.items end v)) (sym (append-nil (of_all_gone b))) (c.list_all_gone.ensures b s) in
-    let from_later = ok_both done c.list_going.new.events.items c.list_later.new.events.items end (of_later k r.next_bid d) (of_all_gone b ++ []) c.in_ok-list_later.ensures gone in
+    let gone = subst (λ v. OnOk done (Adds c.list_later.new.news.items end v)) (sym (append-nil (of_all_gone b))) (c.list_all_gone.ensures b s) in
+    let from_later = ok_both done c.list_going.new.events.items c.list_later.new.news.items end (of_later k r.next_bid d) (of_all_gone b ++ []) c.in_ok-list_later.ensures gone in
     let from_desk = ok_both done c.list_messages.new.events.items c.list_going.new.events.items end (on_desk d) (of_later k r.next_bid d ++ (of_all_gone b ++ [])) c.in_ok-list_going.ensures from_later in
     let from_post = ok_both done c.list_cells.new.events.items c.list_messages.new.events.items end (on_post p) (on_desk d ++ (of_later k r.next_bid d ++ (of_all_gone b ++ []))) c.in_ok-list_messages.ensures from_desk in
     let from_cells = ok_both done c.list_next.new.events.items c.list_cells.new.events.items end cells (on_post p ++ (on_desk d ++ (of_later k r.next_bid d ++ (of_all_gone b ++ [])))) c.in_ok-list_cells.ensures from_post in
-    ok_both done c.args.events.now.items c.list_next.new.events.items end (on_ring w.coordinators r) (cells ++ (on_post p ++ (on_desk d ++ (of_later k r.next_bid d ++ (of_all_gone b ++ []))))) c.in_ok-list_next.ensures from_cells
+    ok_both done c.args.news.now.items c.list_next.new.events.items end (on_ring w.coordinators r) (cells ++ (on_post p ++ (on_desk d ++ (of_later k r.next_bid d ++ (of_all_gone b ++ []))))) c.in_ok-list_next.ensures from_cells

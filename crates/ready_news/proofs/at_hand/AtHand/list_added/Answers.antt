@@ -7,7 +7,7 @@ use Rattle.ready_news.proofs.at_hand.AtHand.list_added.Goals as goal
 
 pub returns : goal.returns
 returns c =
-    let old = c.args.events.now.items in
-    let new = c.push_if.new.events.items in
+    let old = c.args.news.now.items in
+    let new = c.push_if.new.news.items in
     subst (λ n. OnOk c.push_if.result (Adds old new (only (is_lone_in (slice_get c.args.self.now.hand.now.logs n)) (Sync n)))) c.log_at-l.ensures
     (subst (λ p. OnOk c.push_if.result (Adds old new (only p (Sync c.log_at-l.result)))) c.is_lone.ensures c.push_if.ensures)

@@ -6,8 +6,8 @@ use Rattle.ready_news.proofs.at_hand.AtHand.list_all_gone.Goals as goal
 
 pub loop-t-preserved : goal.loop-t-preserved
 loop-t-preserved c b s =
-    adds_next (of_gone b) tid_number c.deref-t-items.result.now c.loop-t.t-index _ c.args.events.now.items c.loop-t.events.items c.list_gone.new.events.items c.loop-t-test.true (c.loop-t.invariant b s)
+    adds_next (of_gone b) tid_number c.deref-t-items.result.now c.loop-t.t-index _ c.args.news.now.items c.loop-t.news.items c.list_gone.new.news.items c.loop-t-test.true (c.loop-t.invariant b s)
     (c.in_ok-list_gone.ensures b s)
 
 pub returns : goal.returns
-returns c b s = adds_each (of_gone b) tid_number c.deref-t-items.result.now _ c.loop-t.t-index c.args.events.now.items c.loop-t.events.items (ap (map tid_number) c.deref-t-items.ensures.value ∙ c.in_ok-tids.ensures b s) c.loop-t-test.false (c.loop-t.invariant b s)
+returns c b s = adds_each (of_gone b) tid_number c.deref-t-items.result.now _ c.loop-t.t-index c.args.news.now.items c.loop-t.news.items (ap (map tid_number) c.deref-t-items.ensures.value ∙ c.in_ok-tids.ensures b s) c.loop-t-test.false (c.loop-t.invariant b s)

@@ -8,4 +8,4 @@ use Rattle.ready_news.specs.ByEvent.{of_gone}
 use Rattle.ready_news.proofs.at_hand.AtHand.list_all_gone.Given as goal
 
 abbrev pub invariant-loop-t : goal.invariant-loop-t
-invariant-loop-t l = (b : Book) → Shows l.self.book.now b → Adds l.fn.events.items l.events.items (flat_map (of_gone b) (map tid_number (take l.t-index l.t-items)))
+invariant-loop-t l = (b : Book) → Shows l.self.book.now b → Adds l.fn.news.items l.news.items (flat_map (of_gone b) (map tid_number (take l.t-index l.t-items)))

@@ -6,4 +6,4 @@ use Rattle.ready_news.specs.InPost.{of_arrival}
 use Rattle.ready_news.proofs.at_hand.AtHand.list_arrivals.Given as goal
 
 abbrev pub invariant-loop-p : goal.invariant-loop-p
-invariant-loop-p l = Adds l.fn.events.items l.events.items (flat_map of_arrival (map sub_listed (take l.p-index l.p-items)))
+invariant-loop-p l = Adds l.fn.news.items l.news.items (flat_map of_arrival (map sub_listed (take l.p-index l.p-items)))

@@ -5,4 +5,4 @@ use Rattle.ready_news.specs.InCells.{close_at}
 use Rattle.ready_news.proofs.at_hand.AtHand.list_closes.Given as goal
 
 abbrev pub invariant-loop-declared : goal.invariant-loop-declared
-invariant-loop-declared l = Adds l.fn.events.items l.events.items (flat_map (close_at l.t.0 l.self.hand.now) (map (λ u. u.0.0) (take l.declared-index l.declared-items)))
+invariant-loop-declared l = Adds l.fn.news.items l.news.items (flat_map (close_at l.t.0 l.self.hand.now) (map (λ u. u.0.0) (take l.declared-index l.declared-items)))

@@ -9,8 +9,8 @@ pub returns : goal.returns
 returns c b s =
     let t = c.args.t.0 in
     let a = c.args.a.0 in
-    let old = c.args.events.now.items in
-    let asked = c.push_if.new.events.items in
-    let new = c.push_if-2.new.events.items in
+    let old = c.args.news.now.items in
+    let asked = c.push_if.new.news.items in
+    let new = c.push_if-2.new.news.items in
     ok_both c.push_if-2.result old asked new _ _ (subst (λ p. Adds old asked (only p (Ask t a))) (c.may_ask.ensures b s) c.in_ok-push_if.ensures)
     (subst (λ p. OnOk c.push_if-2.result (Adds asked new (only p (Take t a)))) c.is_placed_at.ensures c.push_if-2.ensures)

@@ -6,8 +6,8 @@ use Rattle.ready_news.proofs.at_hand.AtHand.list_comings.Goals as goal
 
 pub loop-p-preserved : goal.loop-p-preserved
 loop-p-preserved c =
-    adds_next of_coming control_listed c.deref-p-items.result.now c.loop-p.p-index _ c.args.events.now.items c.loop-p.events.items c.push_two.new.events.items c.loop-p-test.true c.loop-p.invariant
+    adds_next of_coming control_listed c.deref-p-items.result.now c.loop-p.p-index _ c.args.news.now.items c.loop-p.news.items c.push_two.new.events.items c.loop-p-test.true c.loop-p.invariant
     c.in_ok-push_two.ensures
 
 pub returns : goal.returns
-returns c = adds_each of_coming control_listed c.deref-p-items.result.now _ c.loop-p.p-index c.args.events.now.items c.loop-p.events.items (ap (map control_listed) c.deref-p-items.ensures.value ∙ c.in_ok-controls.ensures) c.loop-p-test.false c.loop-p.invariant
+returns c = adds_each of_coming control_listed c.deref-p-items.result.now _ c.loop-p.p-index c.args.news.now.items c.loop-p.news.items (ap (map control_listed) c.deref-p-items.ensures.value ∙ c.in_ok-controls.ensures) c.loop-p-test.false c.loop-p.invariant

@@ -6,4 +6,4 @@ use Rattle.ready_news.specs.InPost.{of_coming}
 use Rattle.ready_news.proofs.at_hand.AtHand.list_comings.Given as goal
 
 abbrev pub invariant-loop-p : goal.invariant-loop-p
-invariant-loop-p l = Adds l.fn.events.items l.events.items (flat_map of_coming (map control_listed (take l.p-index l.p-items)))
+invariant-loop-p l = Adds l.fn.news.items l.news.items (flat_map of_coming (map control_listed (take l.p-index l.p-items)))

@@ -9,8 +9,8 @@ use Rattle.ready_news.proofs.at_hand.AtHand.list_control.Goals as goal
 
 pub returns-in-Some : goal.returns-in-Some
 returns-in-Some c b s =
-    subst (λ o. OnOk c.list_coming.result (Adds c.args.events.now.items c.list_coming.new.events.items (comes_to c.args.t.0 c.args.self.now.hand.now.cells (is_not_doomed c.args.t.0 b.acts) o))) (ap (option_map actor_number) (sym c.in-Some.is) ∙ c.control_to.ensures) (c.list_coming.ensures b s)
+    subst (λ o. OnOk c.list_coming.result (Adds c.args.news.now.items c.list_coming.new.news.items (comes_to c.args.t.0 c.args.self.now.hand.now.cells (is_not_doomed c.args.t.0 b.acts) o))) (ap (option_map actor_number) (sym c.in-Some.is) ∙ c.control_to.ensures) (c.list_coming.ensures b s)
 
 pub returns-in-None : goal.returns-in-None
 returns-in-None c b s =
-    subst (λ o. Adds c.args.events.now.items c.args.events.now.items (comes_to c.args.t.0 c.args.self.now.hand.now.cells (is_not_doomed c.args.t.0 b.acts) o)) (ap (option_map actor_number) (sym c.in-None.is) ∙ c.control_to.ensures) (adds_none c.args.events.now.items)
+    subst (λ o. Adds c.args.news.now.items c.args.news.now.items (comes_to c.args.t.0 c.args.self.now.hand.now.cells (is_not_doomed c.args.t.0 b.acts) o)) (ap (option_map actor_number) (sym c.in-None.is) ∙ c.control_to.ensures) (adds_none c.args.news.now.items)

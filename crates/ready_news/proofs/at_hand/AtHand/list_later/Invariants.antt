@@ -9,5 +9,5 @@ abbrev pub invariant-loop-k : goal.invariant-loop-k
 invariant-loop-k l = record {
   above : l.fn.first.0 ≤ l.k;
   within : l.k ≤ max l.fn.first.0 l.k-end;
-  listed : Adds l.fn.events.items l.events.items (flat_map (of_txs l.self.desk.now) (from l.fn.first.0 (l.k - l.fn.first.0)));
+  listed : Adds l.fn.news.items l.news.items (flat_map (of_txs l.self.desk.now) (from l.fn.first.0 (l.k - l.fn.first.0)));
 }

@@ -7,14 +7,14 @@ use Rattle.ready_news.proofs.Common.{adds_next, adds_each, adds_if}
 use Rattle.ready_news.proofs.at_hand.AtHand.list_leaving.Goals as goal
 
 pub returns-then-not-may_leave : goal.returns-then-not-may_leave
-returns-then-not-may_leave c b s = subst (λ p. Adds c.args.events.now.items c.args.events.now.items (leaving_if p b c.args.t.0)) (sym c.if-not-may_leave.true ∙ c.may_leave.ensures b s) (adds_none c.args.events.now.items)
+returns-then-not-may_leave c b s = subst (λ p. Adds c.args.news.now.items c.args.news.now.items (leaving_if p b c.args.t.0)) (sym c.if-not-may_leave.true ∙ c.may_leave.ensures b s) (adds_none c.args.news.now.items)
 
 pub loop-a-preserved : goal.loop-a-preserved
 loop-a-preserved c b s =
-    adds_next (leaving_on b c.args.t.0) actor_number c.deref-a-items.result.now c.loop-a.a-index _ c.args.events.now.items c.loop-a.events.items c.push_if.new.events.items c.loop-a-test.true (c.loop-a.invariant b s)
-    (adds_if _ c.loop-a.events.items c.push_if.new.events.items _ _ (c.stands_on.ensures b s) c.in_ok-push_if.ensures)
+    adds_next (leaving_on b c.args.t.0) actor_number c.deref-a-items.result.now c.loop-a.a-index _ c.args.news.now.items c.loop-a.news.items c.push_if.new.news.items c.loop-a-test.true (c.loop-a.invariant b s)
+    (adds_if _ c.loop-a.news.items c.push_if.new.news.items _ _ (c.stands_on.ensures b s) c.in_ok-push_if.ensures)
 
 pub returns : goal.returns
 returns c b s =
-    subst (λ p. Adds c.args.events.now.items c.loop-a.events.items (leaving_if p b c.args.t.0)) (sym c.if-not-may_leave.false ∙ c.may_leave.ensures b s)
-    (adds_each (leaving_on b c.args.t.0) actor_number c.deref-a-items.result.now _ c.loop-a.a-index c.args.events.now.items c.loop-a.events.items (ap (map actor_number) c.deref-a-items.ensures.value ∙ c.in_ok-actors.ensures b s) c.loop-a-test.false (c.loop-a.invariant b s))
+    subst (λ p. Adds c.args.news.now.items c.loop-a.news.items (leaving_if p b c.args.t.0)) (sym c.if-not-may_leave.false ∙ c.may_leave.ensures b s)
+    (adds_each (leaving_on b c.args.t.0) actor_number c.deref-a-items.result.now _ c.loop-a.a-index c.args.news.now.items c.loop-a.news.items (ap (map actor_number) c.deref-a-items.ensures.value ∙ c.in_ok-actors.ensures b s) c.loop-a-test.false (c.loop-a.invariant b s))

@@ -15,7 +15,7 @@ returns c b s =
     let t = c.args.t.0 in
     let p = c.args.self.now.post.now.messages in
     let to = option_map message_to (control_of t p.controls) in
-    let old = c.args.events.now.items in
-    let sent = c.list_control.new.events.items in
-    ok_both c.push_if.result old sent c.push_if.new.events.items (comes_to t c.args.self.now.hand.now.cells (is_not_doomed t b.acts) to) (only (is_dropped t b p) (DropControl t)) (c.in_ok-list_control.ensures b s)
-    (subst (λ q. OnOk c.push_if.result (Adds sent c.push_if.new.events.items (only q (DropControl t)))) (c.is_dropped.ensures b s) c.push_if.ensures)
+    let old = c.args.news.now.items in
+    let sent = c.list_control.new.news.items in
+    ok_both c.push_if.result old sent c.push_if.new.news.items (comes_to t c.args.self.now.hand.now.cells (is_not_doomed t b.acts) to) (only (is_dropped t b p) (DropControl t)) (c.in_ok-list_control.ensures b s)
+    (subst (λ q. OnOk c.push_if.result (Adds sent c.push_if.new.news.items (only q (DropControl t)))) (c.is_dropped.ensures b s) c.push_if.ensures)

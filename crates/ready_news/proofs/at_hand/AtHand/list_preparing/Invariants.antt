@@ -8,4 +8,4 @@ use Rattle.ready_news.specs.InBook.{preparing_on}
 use Rattle.ready_news.proofs.at_hand.AtHand.list_preparing.Given as goal
 
 abbrev pub invariant-loop-a : goal.invariant-loop-a
-invariant-loop-a l = (b : Book) → Shows l.self.book.now b → Adds l.fn.events.items l.events.items (flat_map (preparing_on b l.t.0) (map actor_number (take l.a-index l.a-items)))
+invariant-loop-a l = (b : Book) → Shows l.self.book.now b → Adds l.fn.news.items l.news.items (flat_map (preparing_on b l.t.0) (map actor_number (take l.a-index l.a-items)))

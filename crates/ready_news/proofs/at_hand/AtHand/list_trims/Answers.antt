@@ -6,8 +6,8 @@ use Rattle.ready_news.proofs.at_hand.AtHand.list_trims.Goals as goal
 
 pub loop-a-preserved : goal.loop-a-preserved
 loop-a-preserved c =
-    adds_next (of_trim c.args.k.0) actor_number c.deref-a-items.result.now c.loop-a.a-index _ c.args.events.now.items c.loop-a.events.items c.push_one.new.events.items c.loop-a-test.true c.loop-a.invariant
+    adds_next (of_trim c.args.k.0) actor_number c.deref-a-items.result.now c.loop-a.a-index _ c.args.news.now.items c.loop-a.news.items c.push_one.new.events.items c.loop-a-test.true c.loop-a.invariant
     c.in_ok-push_one.ensures
 
 pub returns : goal.returns
-returns c = adds_each (of_trim c.args.k.0) actor_number c.deref-a-items.result.now _ c.loop-a.a-index c.args.events.now.items c.loop-a.events.items (ap (map actor_number) c.deref-a-items.ensures.value ∙ c.in_ok-actors.ensures) c.loop-a-test.false c.loop-a.invariant
+returns c = adds_each (of_trim c.args.k.0) actor_number c.deref-a-items.result.now _ c.loop-a.a-index c.args.news.now.items c.loop-a.news.items (ap (map actor_number) c.deref-a-items.ensures.value ∙ c.in_ok-actors.ensures) c.loop-a-test.false c.loop-a.invariant

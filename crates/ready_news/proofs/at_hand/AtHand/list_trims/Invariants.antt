@@ -6,4 +6,4 @@ use Rattle.ready_news.specs.InDesk.{of_trim}
 use Rattle.ready_news.proofs.at_hand.AtHand.list_trims.Given as goal
 
 abbrev pub invariant-loop-a : goal.invariant-loop-a
-invariant-loop-a l = Adds l.fn.events.items l.events.items (flat_map (of_trim l.k.0) (map actor_number (take l.a-index l.a-items)))
+invariant-loop-a l = Adds l.fn.news.items l.news.items (flat_map (of_trim l.k.0) (map actor_number (take l.a-index l.a-items)))

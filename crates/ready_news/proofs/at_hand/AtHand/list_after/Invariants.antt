@@ -3,7 +3,7 @@ use Rattle.std.proofs.Common.{map, take}
 use Rattle.ready_listing.specs.Listed.{Adds}
 use Rattle.listing_facts.specs.post_box.Listed.{sub_listed}
 use Rattle.ready_news.specs.InPost.{of_follower}
-use Rattle.ready_news.proofs.at_hand.AtHand.list_followers.Given as goal
+use Rattle.ready_news.proofs.at_hand.AtHand.list_after.Given as goal
 
 abbrev pub invariant-loop-p : goal.invariant-loop-p
-invariant-loop-p l = Adds l.fn.events.items l.events.items (flat_map (of_follower l.k.0 l.self.post.now.messages) (map sub_listed (take l.p-index l.p-items)))
+invariant-loop-p l = Adds l.fn.news.items l.news.items (flat_map (of_follower l.k.0 l.self.post.now.messages) (map sub_listed (take l.p-index l.p-items)))

@@ -3,7 +3,7 @@ use Rattle.std.proofs.Common.{map, take}
 use Rattle.ready_listing.specs.Listed.{Adds}
 use Rattle.protocol.specs.Meant.{tid_number}
 use Rattle.ready_news.specs.InPost.{takes_at}
-use Rattle.ready_news.proofs.at_hand.AtHand.list_let_in.Given as goal
+use Rattle.ready_news.proofs.at_hand.AtHand.list_takes.Given as goal
 
 abbrev pub invariant-loop-t : goal.invariant-loop-t
-invariant-loop-t l = Adds l.fn.events.items l.events.items (flat_map (takes_at l.a.0 l.self.post.now.messages) (map tid_number (take l.t-index l.t-items)))
+invariant-loop-t l = Adds l.fn.news.items l.news.items (flat_map (takes_at l.a.0 l.self.post.now.messages) (map tid_number (take l.t-index l.t-items)))
