@@ -62,23 +62,23 @@ locked on two logs|run compact run
 actor 0 70/actor 1 80/recovered batches 0 acts 1 next 2 1 2/|tx 0 committed 0.1.2 110/actor 0 40/actor 1 110/end committed 1 aborted 0 batches 0/|compacted 2/
 actor 0 40/actor 1 110/kept 0.1.2 110/recovered batches 0 acts 2 next 3 1 3/|tx 0 committed 0.1.3 140/actor 0 10/actor 1 140/end committed 1 aborted 0 batches 0/|compacted 2/
 
-deposit|compact|=SNAPLOG1\0\0|G1:100;I1:0:1,C1:0:105;D1:105
+deposit|compact|=SNAPLOG1\0\0|genesis:1:100;info:1:0:1,complete:1:0:105;done:1:105
 actor 0 105/kept 1.0.1 105/recovered batches 1 acts 0 next 2 2 1/|tx 0 committed 2.0.2 110/actor 0 110/end committed 1 aborted 0 batches 1/|compacted 1/
 actor 0 105/recovered batches 1 acts 0 next 2 2 1/|tx 0 committed 2.0.2 110/actor 0 110/end committed 1 aborted 0 batches 1/|compacted 2/
 
-deposit|compact|K1|G1:100,H1:2:2:1:1:0:105;I2:0:2,C2:0:110;D2:110
+deposit|compact|commit:1|genesis:1:100,checkpoint:1:2:2:1:1:0:105;info:2:0:2,complete:2:0:110;done:2:110
 actor 0 110/kept 2.0.2 110/recovered batches 2 acts 0 next 3 3 1/|tx 0 committed 3.0.3 115/actor 0 115/end committed 1 aborted 0 batches 1/|compacted 2/
 actor 0 110/recovered batches 2 acts 0 next 3 3 1/|tx 0 committed 3.0.3 115/actor 0 115/end committed 1 aborted 0 batches 1/|compacted 3/
 
-deposit|run|K1|G1:100,H1:2:2:1:1:0:105
+deposit|run|commit:1|genesis:1:100,checkpoint:1:2:2:1:1:0:105
 actor 0 105/recovered batches 1 acts 0 next 2 2 1/|tx 0 committed 2.0.2 110/actor 0 110/end committed 1 aborted 0 batches 1/|compacted 2/
 actor 0 110/kept 2.0.2 110/recovered batches 2 acts 0 next 3 3 1/|tx 0 committed 3.0.3 115/actor 0 115/end committed 1 aborted 0 batches 1/|compacted 2/
 
-one on two logs|compact|G2:100|K1|G2:100,H3:2:2:1:1:0:101;I2:0:2,C2:0:102;D2:102|=SNAPLOG1\0\0
+one on two logs|compact|genesis:2:100|commit:1|genesis:2:100,checkpoint:3:2:2:1:1:0:101;info:2:0:2,complete:2:0:102;done:2:102|=SNAPLOG1\0\0
 actor 0 102/kept 2.0.2 102/recovered batches 2 acts 0 next 3 3 1/|tx 0 committed 3.0.3 103/actor 0 103/end committed 1 aborted 0 batches 1/|compacted 4/
 actor 0 102/recovered batches 2 acts 0 next 3 3 1/|tx 0 committed 3.0.3 103/actor 0 103/end committed 1 aborted 0 batches 1/|compacted 5/
 
-one on two logs|run|G2:100|K1|G2:100,H3:2:2:1:1:0:101|=SNAPLOG1\0\0
+one on two logs|run|genesis:2:100|commit:1|genesis:2:100,checkpoint:3:2:2:1:1:0:101|=SNAPLOG1\0\0
 actor 0 101/recovered batches 1 acts 0 next 2 2 1/|tx 0 committed 2.0.2 102/actor 0 102/end committed 1 aborted 0 batches 1/|compacted 4/
 actor 0 102/kept 2.0.2 102/recovered batches 2 acts 0 next 3 3 1/|tx 0 committed 3.0.3 103/actor 0 103/end committed 1 aborted 0 batches 1/|compacted 4/";
 

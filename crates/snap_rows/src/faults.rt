@@ -23,67 +23,67 @@ each kind on its log|0 8
 tells LogFault { log: 1 }|tx 0 unsure 1/tx 1 unsure 1/|
 recovers Done|actor 0 0/actor 1 0/recovered batches 0 acts 0 next 2 2 1/|
 
-recover|1 0 1 1 1|G2:100
+recover|1 0 1 1 1|genesis:2:100
 tells LogFault { log: 0 }||
 leaves |
 
-recover|2 0 1 1 1|G2:100
+recover|2 0 1 1 1|genesis:2:100
 tells LogFault { log: 0 }||
 leaves |
 
-recover|3 0 1 1 1|G2:100
+recover|3 0 1 1 1|genesis:2:100
 tells LogFault { log: 0 }||
 leaves |
 
-recover|0 1 1 1 1|G2:100
+recover|0 1 1 1 1|genesis:2:100
 tells LogFault { log: 1 }||
 leaves |
 
-recover|0 2 1 1 1|G2:100
+recover|0 2 1 1 1|genesis:2:100
 tells LogFault { log: 1 }||
 leaves |
 
-recover|0 3 1 1 1|G2:100
+recover|0 3 1 1 1|genesis:2:100
 tells LogFault { log: 1 }||
 leaves |=SNAPLOG2\0
 
-migrate|4|old G1:100
+migrate|4|old genesis:1:100
 tells LogFault { log: 0 }||1 2 2 2|
 leaves |
 
-migrate|5|old G1:100
+migrate|5|old genesis:1:100
 tells LogFault { log: 0 }||2 2 2 2|
-leaves G1:100
+leaves genesis:1:100
 
-migrate|0 4|old G2:1.2|old P1:1:6
+migrate|0 4|old genesis:2:1.2|old prepare:1:1:6
 tells LogFault { log: 1 }||3 1 2 2|
-leaves G2:1.2|
+leaves genesis:2:1.2|
 
-migrate|4|old G2:1.2|old P1:1:6
+migrate|4|old genesis:2:1.2|old prepare:1:1:6
 tells LogFault { log: 0 }||1 1 2 2|
 leaves |
 
-migrate|0 0 0 1|old G1:100
+migrate|0 0 0 1|old genesis:1:100
 tells OutFault||3 2 2 2|
-leaves G1:100
+leaves genesis:1:100
 
-deposit|4|K1|G1:100,H1:2:2:1:1:0:105
+deposit|4|commit:1|genesis:1:100,checkpoint:1:2:2:1:1:0:105
 tells LogFault { log: 0 }|tx 0 unsure 0/|1 1 2 2|
 recovers Done|actor 0 105/recovered batches 1 acts 0 next 2 2 1/|
 
-deposit|0 4||G1:100,H1:2:2:1:1:0:105
+deposit|0 4||genesis:1:100,checkpoint:1:2:2:1:1:0:105
 tells LogFault { log: 1 }|tx 0 unsure 1/|2 1 2 2|
 recovers Done|actor 0 105/recovered batches 1 acts 0 next 2 2 1/|
 
-compact|4|G1:100
+compact|4|genesis:1:100
 tells LogFault { log: 0 }||1 6 2 2|
 recovers Done|actor 0 100/recovered batches 0 acts 0 next 1 1 1/|
 
-compact|0 4|G1:100
+compact|0 4|genesis:1:100
 tells LogFault { log: 1 }||1 2 2 2|
 recovers Done|actor 0 100/recovered batches 0 acts 0 next 1 1 1/|
 
-compact|0 0 0 1|G1:100
+compact|0 0 0 1|genesis:1:100
 tells OutFault||3 6 2 2|
 recovers Done|actor 0 100/recovered batches 0 acts 0 next 1 1 1/|
 
@@ -131,5 +131,5 @@ stops at any moment
 
 many images
 tells Done|tx 0 batchcode 1 1 9/tx 1 cascade 1 0/tx 2 cascade 1 0/tx 3 cascade 1 0/tx 4 cascade 1 0/tx 5 cascade 1 0/tx 6 cascade 1 0/tx 7 cascade 1 0/tx 8 cascade 1 0/tx 9 cascade 1 0/tx 10 cascade 1 0/tx 11 cascade 1 0/tx 12 cascade 1 0/tx 13 cascade 1 0/tx 14 cascade 1 0/tx 15 cascade 1 0/tx 16 cascade 1 0/tx 17 cascade 1 0/tx 18 cascade 1 0/tx 19 cascade 1 0/tx 20 cascade 1 0/tx 21 cascade 1 0/tx 22 cascade 1 0/tx 23 cascade 1 0/tx 24 cascade 1 0/tx 25 cascade 1 0/tx 26 cascade 1 0/tx 27 cascade 1 0/tx 28 cascade 1 0/tx 29 cascade 1 0/tx 30 cascade 1 0/tx 31 cascade 1 0/actor 0 100/end committed 0 aborted 32 batches 0/|10 2 2 2|
-leaves G1:100;I1:0:1,I2:0:2,I3:0:3,I4:0:4,I5:0:5,I6:0:6,I7:0:7,I8:0:8,I9:0:9,I10:0:10,I11:0:11,I12:0:12,I13:0:13,I14:0:14,I15:0:15,I16:0:16,I17:0:17,I18:0:18,I19:0:19,I20:0:20,I21:0:21,I22:0:22,I23:0:23,I24:0:24,I25:0:25,I26:0:26,I27:0:27,I28:0:28,I29:0:29,I30:0:30,I31:0:31,I32:0:32,C1:0:101,C2:0:102,C3:0:103,C4:0:104,C5:0:105,C6:0:106,C7:0:107,C8:0:108,C9:0:109,C10:0:110,C11:0:111,C12:0:112,C13:0:113,C14:0:114,C15:0:115,C16:0:116,C17:0:117,C18:0:118,C19:0:119,C20:0:120,C21:0:121,C22:0:122,C23:0:123,C24:0:124,C25:0:125,C26:0:126,C27:0:127,C28:0:128,C29:0:129,C30:0:130,C31:0:131,C32:0:132
+leaves genesis:1:100;info:1:0:1,info:2:0:2,info:3:0:3,info:4:0:4,info:5:0:5,info:6:0:6,info:7:0:7,info:8:0:8,info:9:0:9,info:10:0:10,info:11:0:11,info:12:0:12,info:13:0:13,info:14:0:14,info:15:0:15,info:16:0:16,info:17:0:17,info:18:0:18,info:19:0:19,info:20:0:20,info:21:0:21,info:22:0:22,info:23:0:23,info:24:0:24,info:25:0:25,info:26:0:26,info:27:0:27,info:28:0:28,info:29:0:29,info:30:0:30,info:31:0:31,info:32:0:32,complete:1:0:101,complete:2:0:102,complete:3:0:103,complete:4:0:104,complete:5:0:105,complete:6:0:106,complete:7:0:107,complete:8:0:108,complete:9:0:109,complete:10:0:110,complete:11:0:111,complete:12:0:112,complete:13:0:113,complete:14:0:114,complete:15:0:115,complete:16:0:116,complete:17:0:117,complete:18:0:118,complete:19:0:119,complete:20:0:120,complete:21:0:121,complete:22:0:122,complete:23:0:123,complete:24:0:124,complete:25:0:125,complete:26:0:126,complete:27:0:127,complete:28:0:128,complete:29:0:129,complete:30:0:130,complete:31:0:131,complete:32:0:132
 may lack memory";

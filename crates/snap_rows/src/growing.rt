@@ -140,47 +140,47 @@ const ROWS: [[&str; 3]; 9] = [
     [
         "3",
         "actor 0 105/following batches 1 acts 0/",
-        "G1:100|G1:100;I1:0:1,C1:0:105;D1:105|G1:100;I1:0:1,C1:0:105;D1:105;I2:0:2,C2:0:110;D2:110",
+        "genesis:1:100|genesis:1:100;info:1:0:1,complete:1:0:105;done:1:105|genesis:1:100;info:1:0:1,complete:1:0:105;done:1:105;info:2:0:2,complete:2:0:110;done:2:110",
     ],
     [
         "2",
         "actor 0 100/following batches 0 acts 0/",
-        "G1:100|G1:100;I1:0:1,C1:0:105;D1:105",
+        "genesis:1:100|genesis:1:100;info:1:0:1,complete:1:0:105;done:1:105",
     ],
     [
         "4",
         "actor 0 110/following batches 2 acts 0/",
-        "G1:100|G1:100;I1:0:1,C1:0:105;D1:105|G1:100;I1:0:1,C1:0:105;D1:105;I2:0:2,C2:0:110;D2:110",
+        "genesis:1:100|genesis:1:100;info:1:0:1,complete:1:0:105;done:1:105|genesis:1:100;info:1:0:1,complete:1:0:105;done:1:105;info:2:0:2,complete:2:0:110;done:2:110",
     ],
     // it has fewer records than before
     [
         "3",
         "snapper: log 0 at 0: Back/",
-        "G1:100;I1:0:1,C1:0:105;D1:105|G1:100;I1:0:1,C1:0:105",
+        "genesis:1:100;info:1:0:1,complete:1:0:105;done:1:105|genesis:1:100;info:1:0:1,complete:1:0:105",
     ],
     // it is compacted in between
     [
         "2",
         "snapper: log 0 at 0: Back/",
-        "G1:100;I1:0:1,C1:0:105;D1:105|G1:100,H1:2:2:1:1:0:105",
+        "genesis:1:100;info:1:0:1,complete:1:0:105;done:1:105|genesis:1:100,checkpoint:1:2:2:1:1:0:105",
     ],
     // a checkpoint's counts and states go on
     [
         "2",
         "actor 0 106/following batches 1 acts 1/",
-        "G1:100,H1:2:2:1:1:0:105;P2:0:106;E2:1:1:106:0",
+        "genesis:1:100,checkpoint:1:2:2:1:1:0:105;prepare:2:0:106;actdone:2:1:1:106:0",
     ],
     // its bytes end within a group, as where a group was appended while they were read
     [
         "2",
         "actor 0 105/following batches 1 acts 0/",
-        "G1:100;I1:0:1,C1:0:105;D1:105-c3|G1:100;I1:0:1,C1:0:105;D1:105",
+        "genesis:1:100;info:1:0:1,complete:1:0:105;done:1:105-c3|genesis:1:100;info:1:0:1,complete:1:0:105;done:1:105",
     ],
     // and so they stay
     [
         "2",
         "snapper: log 0 at 318: Damage/",
-        "G1:100;I1:0:1,C1:0:105;D1:105-c3",
+        "genesis:1:100;info:1:0:1,complete:1:0:105;done:1:105-c3",
     ],
     // no log says how many there are
     ["2", "snapper: log 0 at 0: NoGenesis/", ""],

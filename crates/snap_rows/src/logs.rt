@@ -1,11 +1,11 @@
 //! Logs as rows spell them. An empty word is an empty file, and `=` stands before the bytes of a file. Else groups stand apart by
 //! `;` and their records by `,`; `old ` in front makes it a log of format 1, and `-c` and a number at the end cuts so many bytes
-//! off. A record is `G2:7.8_9` (Genesis of two logs, actors with first fields 7, and 8 and 9), `I4:0.1:5` (batch 4 of actors 0
-//! and 1 with transaction 5), `C4:1:9` (actor 1 completes it with first field 9), `D4:80` (its commit: transaction 5 had the
-//! result 80), `K4` (a commit that tells no results), `P7:1:9` (undeclared transaction 7 leaves actor 1 with first field 9),
-//! `E7:4:2:80:0.1` (its commit, behind batch 4, with number 2 and result 80, on actors 0 and 1), `A7:4:2:0.1` (one that tells no
-//! result), `H3:9:5:2:4:1:7.8_9` (the checkpoint of generation 3 with the next numbers 9, 5 and 2, for 4 batches, an undeclared
-//! transaction and the states that they left), or `x` with the bytes of an item.
+//! off. A record is `genesis:2:7.8_9` (Genesis of two logs, actors with first fields 7, and 8 and 9), `info:4:0.1:5` (batch 4 of
+//! actors 0 and 1 with transaction 5), `complete:4:1:9` (actor 1 completes it with first field 9), `done:4:80` (its commit:
+//! transaction 5 had the result 80), `commit:4` (a commit that tells no results), `prepare:7:1:9` (undeclared transaction 7 leaves
+//! actor 1 with first field 9), `actdone:7:4:2:80:0.1` (its commit, behind batch 4, with number 2 and result 80, on actors 0 and
+//! 1), `act:7:4:2:0.1` (one that tells no result), `checkpoint:3:9:5:2:4:1:7.8_9` (the checkpoint of generation 3 with the next
+//! numbers 9, 5 and 2, for 4 batches, an undeclared transaction and the states that they left), or `x` with the bytes of an item.
 
 use snap_base::Memory;
 use std::alloc::Global;
@@ -68,17 +68,21 @@ const STATES: Kind = Kind {
     width: 8,
 };
 
-/// The letter of a kind of record, its tag, and how its parts are written.
+/// How the word of a record begins, its tag, and how its parts are written.
 const RECORDS: [(&str, u8, &[Kind]); 9] = [
-    ("G", 1, &[BYTE, STATES]),
-    ("I", 2, &[LONG, SHORTS, LONGS]),
-    ("C", 3, &[LONG, SHORT, STATE]),
-    ("K", 4, &[LONG]),
-    ("P", 5, &[LONG, SHORT, STATE]),
-    ("A", 6, &[LONG, LONG, LONG, SHORTS]),
-    ("D", 7, &[LONG, LONGS]),
-    ("E", 8, &[LONG, LONG, LONG, LONG, SHORTS]),
-    ("H", 16, &[LONG, LONG, LONG, LONG, LONG, LONG, STATES]),
+    ("genesis:", 1, &[BYTE, STATES]),
+    ("info:", 2, &[LONG, SHORTS, LONGS]),
+    ("complete:", 3, &[LONG, SHORT, STATE]),
+    ("commit:", 4, &[LONG]),
+    ("prepare:", 5, &[LONG, SHORT, STATE]),
+    ("act:", 6, &[LONG, LONG, LONG, SHORTS]),
+    ("done:", 7, &[LONG, LONGS]),
+    ("actdone:", 8, &[LONG, LONG, LONG, LONG, SHORTS]),
+    (
+        "checkpoint:",
+        16,
+        &[LONG, LONG, LONG, LONG, LONG, LONG, STATES],
+    ),
 ];
 
 /// The bytes that a row's word for a log spells.
@@ -118,10 +122,10 @@ fn push_groups(alloc: Global, bytes: &mut Vec<u8>, groups: &str) -> Result<(), M
     Ok(bytes.push(0)?)
 }
 
-/// Adds the bytes of a record that a letter and its parts spell, or of an item after `x`.
+/// Adds the bytes of a record that a word and its parts spell, or of an item after `x`.
 fn push_record(item: &mut Vec<u8>, record: &str) -> Result<(), Memory> {
-    for (letter, tag, kinds) in RECORDS {
-        if let Some(parts) = record.strip_prefix(letter) {
+    for (front, tag, kinds) in RECORDS {
+        if let Some(parts) = record.strip_prefix(front) {
             item.push(tag)?;
             for (kind, words) in kinds.iter().zip(parts.split(':')) {
                 push_words(item, *kind, words)?;
