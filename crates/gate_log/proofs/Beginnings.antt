@@ -14,7 +14,7 @@ use Rattle.gate_log.proofs.OpenDisks.{settled_log}
 use Rattle.gate_log.proofs.Openings.{gives, keeps, made_log, short_ops, long_ops}
 use Rattle.gate_log.proofs.Upgrades.{upgrade_gives, upgrade_keeps}
 
-abbrev upgrade_where : Bool → List DevOp
+abbrev pub upgrade_where : Bool → List DevOp
 upgrade_where old = if old then upgrade_ops else []
 
 -- what is opened is still there when it is upgraded

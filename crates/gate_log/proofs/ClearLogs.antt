@@ -20,12 +20,12 @@ abbrev pub OldOrNone : List (List ℕ) → List ℕ → Type 0
 OldOrNone items image = IsLog image items ⊎ IsLog image []
 
 -- a log with a group begins with an open gate
-record BeginsOpen (bytes : List ℕ) : Type 0 where
-  mark : ℕ
-  tail : List ℕ
-  is : bytes ≡ header mark ++ 1 ∷ tail
+pub record BeginsOpen (bytes : List ℕ) : Type 0 where
+  pub mark : ℕ
+  pub tail : List ℕ
+  pub is : bytes ≡ header mark ++ 1 ∷ tail
 
-begins_open : (bytes : List ℕ) (end : ℕ) (items : List (List ℕ)) → IsLogAt bytes end items → 8 < end → BeginsOpen bytes
+pub begins_open : (bytes : List ℕ) (end : ℕ) (items : List (List ℕ)) → IsLogAt bytes end items → 8 < end → BeginsOpen bytes
 begins_open bytes end items log far = by log.parts.0 log.parts.5 log.parts.6
   where
     by : (groups : List (List (List ℕ))) → bytes ≡ (header log.mark ++ blocks groups) ++ log.parts.1 ∷ log.parts.2 → end ≡ length (header log.mark ++ blocks groups)

@@ -6,6 +6,7 @@ pub mod AppendLogs
 pub mod Beginnings
 pub mod ClearExits
 pub mod ClearLogs
+pub mod Marks
 pub mod OneReading
 pub mod OpenCrashes
 pub mod OpenDisks

@@ -91,7 +91,7 @@ keeps h items quiet log = elim (cases_lt NEW_LOG_SIZE (length (content h))) [
 
 -- ---- the format
 
-long_same : (h : DeviceHistory) → content (with_ops h (Sync ∷ [])) ≡ content h
+pub long_same : (h : DeviceHistory) → content (with_ops h (Sync ∷ [])) ≡ content h
 long_same h = ap (λ (d : Disk). d.now) (disk_join h.ops (Sync ∷ []) (settled h.first))
 
 pub keeps_format : (h : DeviceHistory) (new : Option DeviceHistory) (end : ℕ) (found : List LogItem) → Opened (Some h) new end found

@@ -90,6 +90,10 @@ IsLog bytes items =
 abbrev pub IsLogOf : List ℕ → ℕ → List (List ℕ) → Type 0
 IsLogOf bytes format items = IsLog bytes items × (format ≡ format_in bytes)
 
+-- the bytes are a log of format 1 with an item
+abbrev pub IsOld : List ℕ → Type 0
+IsOld bytes = (items : List (List ℕ)) × IsLogOf bytes 1 items × (items ≢ [])
+
 -- ---- what is no log
 
 -- the first byte that differs from those with which each log begins

@@ -5,7 +5,7 @@ use Rattle.snap_outside.specs.Disk.{DeviceHistory, disk, content, settled, with_
 use Rattle.gate_log.specs.declared.logs.LogItem.{LogItem}
 use Rattle.gate_log.specs.declared.opens.OpenNo.{OpenNo}
 use Rattle.gate_log.specs.Appends.{append_ops, end_behind, upgrade_ops, clear_ops}
-use Rattle.gate_log.specs.Bytes.{FIRST_GATE, IsLog, IsLogAt, IsPlacedLogAt, DiffersAt, IsDamagedAt, marked_format, format_in}
+use Rattle.gate_log.specs.Bytes.{FIRST_GATE, IsLog, IsLogAt, IsOld, IsPlacedLogAt, DiffersAt, IsDamagedAt, marked_format, format_in}
 use Rattle.gate_log.specs.Device.{DeviceLog, HasFormat, MayAppend}
 use Rattle.gate_log.specs.Opened.{bytes_of, opening_ops, beginning_ops, Opened, Refused}
 
@@ -99,6 +99,12 @@ AppendKeepsFormat =
     (h : DeviceHistory) (end : ℕ) (items added : List (List ℕ)) → MayAppend end added → DeviceLog h end items
     → marked_format (content (with_ops h (append_ops end added))) ≡ marked_format (content h)
 
+-- whatever a crash leaves while an append's operations are made has the mark from before
+abbrev pub AppendKeepsMark : Type 0
+AppendKeepsMark =
+    (h : DeviceHistory) (end : ℕ) (items added : List (List ℕ)) → MayAppend end added → DeviceLog h end items
+    → EachMoment (disk h) (append_ops end added) (λ image. marked_format image ≡ marked_format (content h))
+
 -- ---- an upgrade
 
 -- behind an upgrade's operations the device holds the same log in format 2
@@ -137,6 +143,12 @@ ClearKeepsFormat =
     (h : DeviceHistory) (end format : ℕ) (items : List (List ℕ)) → DeviceLog h end items → HasFormat (Some h) format
     → HasFormat (Some (with_ops h (clear_ops end))) format
 
+-- whatever a crash leaves while a clearing's operations are made has the mark from before
+abbrev pub ClearKeepsMark : Type 0
+ClearKeepsMark =
+    (h : DeviceHistory) (end : ℕ) (items : List (List ℕ)) → DeviceLog h end items
+    → EachMoment (disk h) (clear_ops end) (λ image. marked_format image ≡ marked_format (content h))
+
 -- ---- a beginning: an opening, and an upgrade where the log is of format 1
 
 -- behind the operations of a beginning the device holds the log that was found, or made
@@ -150,3 +162,15 @@ abbrev pub BeginningKeeps : Type 0
 BeginningKeeps =
     (h : DeviceHistory) (items : List (List ℕ)) → disk h ≡ settled (content h) → IsLog (content h) items
     → EachMoment (disk h) (beginning_ops (content h)) (λ image. IsLog image items)
+
+-- behind the operations of a beginning the mark is one of format 2
+abbrev pub BeginningMakesSecond : Type 0
+BeginningMakesSecond =
+    (h : DeviceHistory) (new : Option DeviceHistory) (end : ℕ) (found : List LogItem) → Opened (Some h) new end found
+    → marked_format (content (with_ops h (beginning_ops (content h)))) ≡ 2
+
+-- whatever a crash leaves while a beginning's operations are made is no log of format 1 with an item, where there was none
+abbrev pub BeginningKeepsRecent : Type 0
+BeginningKeepsRecent =
+    (h : DeviceHistory) (items : List (List ℕ)) → disk h ≡ settled (content h) → IsLog (content h) items → ¬ IsOld (content h)
+    → EachMoment (disk h) (beginning_ops (content h)) (λ image. ¬ IsOld image)

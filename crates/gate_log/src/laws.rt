@@ -1,5 +1,5 @@
 //! Laws of every log: its one reading, and what a crash leaves of an opening, an append, an upgrade and a clearing.
-ghost use Rattle.gate_log.specs.LogLaws.{OneReading, OneList, LogAtIsLog, PlacedIsLogAt, DamageIsNoLog, OneDamage, DifferenceIsNoLog, DifferenceIsNoDamage, OneDifference, OpeningAdds, RefusalAdds, OpeningGives, OpeningKeeps, OpeningKeepsFormat, AppendGives, AppendKeeps, AppendKeepsFormat, UpgradeGives, UpgradeKeeps, MarkedIsSecond, ClearGives, ClearKeeps, ClearKeepsFormat, BeginningGives, BeginningKeeps};
+ghost use Rattle.gate_log.specs.LogLaws.{OneReading, OneList, LogAtIsLog, PlacedIsLogAt, DamageIsNoLog, OneDamage, DifferenceIsNoLog, DifferenceIsNoDamage, OneDifference, OpeningAdds, RefusalAdds, OpeningGives, OpeningKeeps, OpeningKeepsFormat, AppendGives, AppendKeeps, AppendKeepsFormat, AppendKeepsMark, UpgradeGives, UpgradeKeeps, MarkedIsSecond, ClearGives, ClearKeeps, ClearKeepsFormat, ClearKeepsMark, BeginningGives, BeginningKeeps, BeginningMakesSecond, BeginningKeepsRecent};
 
 /// Bytes are a log in one way at most: with one closed gate and one list of items.
 pub fn one_reading()
@@ -45,11 +45,13 @@ pub fn opening_is_safe()
     ensures format { OpeningKeepsFormat }
 {}
 
-/// The operations of an append add its items all at once, and leave the format.
+/// The operations of an append add its items all at once, and leave the format; whatever a crash leaves at any moment of them has the
+/// mark from before.
 pub fn append_is_whole()
     ensures gives { AppendGives }
     ensures keeps { AppendKeeps }
     ensures format { AppendKeepsFormat }
+    ensures mark { AppendKeepsMark }
 {}
 
 /// The operations of an upgrade make the log one of format 2. A crash at any moment of them loses no item.
@@ -64,10 +66,14 @@ pub fn clear_is_safe()
     ensures gives { ClearGives }
     ensures keeps { ClearKeeps }
     ensures format { ClearKeepsFormat }
+    ensures mark { ClearKeepsMark }
 {}
 
-/// An opening and the upgrade behind it leave the log that was found. A crash at any moment of them loses no item.
+/// An opening and the upgrade behind it leave the log that was found, in format 2. A crash at any moment of them loses no item, and
+/// leaves no log of format 1 with an item, where there was none.
 pub fn beginning_is_safe()
     ensures gives { BeginningGives }
     ensures keeps { BeginningKeeps }
+    ensures second { BeginningMakesSecond }
+    ensures recent { BeginningKeepsRecent }
 {}

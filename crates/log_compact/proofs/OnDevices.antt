@@ -73,7 +73,7 @@ upgrading laws true h end log = laws.upgrade_keeps h end [] log
 upgrading laws false h end log = λ image left. quiet_image laws h end [] log image left
 
 -- it is being cleared, and then made one of format 2
-making_ready : LogsStand → (x : Held) (made : List DevOp) (image : List ℕ) → IsFront made (ready_ops (open_of x)) → IsImage (disk_after made (disk x.history)) image → HoldsRecords image x.records ⊎ HoldsRecords image []
+pub making_ready : LogsStand → (x : Held) (made : List DevOp) (image : List ℕ) → IsFront made (ready_ops (open_of x)) → IsImage (disk_after made (disk x.history)) image → HoldsRecords image x.records ⊎ HoldsRecords image []
 making_ready laws x made image front left = old_or_none x image (at_front (disk x.history) made (ready_ops (open_of x)) (λ z. IsLog z (spelled x.records) ⊎ IsLog z []) image all front left)
   where
     closed : DeviceLog (with_ops x.history (clear_ops x.end)) FIRST_GATE []
@@ -92,10 +92,10 @@ ready_log laws x items log =
     subst (λ z. DeviceLog z FIRST_GATE []) (with_both x.history (clear_ops x.end) (upgrading_ops (content x.history)))
     (upgraded laws (format_in (content x.history) == 1) (with_ops x.history (clear_ops x.end)) FIRST_GATE (laws.clears x.history x.end items log))
 
-ready : LogsStand → (x : Held) → DeviceLog (with_ops x.history (ready_ops (open_of x))) FIRST_GATE []
+pub ready : LogsStand → (x : Held) → DeviceLog (with_ops x.history (ready_ops (open_of x))) FIRST_GATE []
 ready laws x = ready_log laws (open_of x) (spelled x.records) x.holds.log
 
-made_ready : LogsStand → (x : Held) (made : List DevOp) (image : List ℕ) → made ≡ ready_ops (open_of x) → IsImage (disk_after made (disk x.history)) image → HoldsRecords image []
+pub made_ready : LogsStand → (x : Held) (made : List DevOp) (image : List ℕ) → made ≡ ready_ops (open_of x) → IsImage (disk_after made (disk x.history)) image → HoldsRecords image []
 made_ready laws x made image e left = record { log = left_image laws x.history (ready_ops (open_of x)) made FIRST_GATE [] (ready laws x) e image left; each = tt }
 
 -- the group is being appended to it

@@ -4,5 +4,6 @@ mod Fitting
 mod Ended
 mod InUse
 mod Safe
+mod Recent
 mod Compacting
 mod Found

@@ -23,11 +23,9 @@ use Rattle.log_opening.specs.Devices.{Device, device_at, OnlyOpened}
 use Rattle.log_opening.specs.Found.{IsTouched}
 use Rattle.log_opening.specs.Kept.{AreFolded}
 use Rattle.log_opening.proofs.Numbers.{each_zip}
-use Rattle.log_opening.proofs.Opening.{touched_safe}
 use Rattle.log_compaction.specs.Compacted.{IsUnspentFold}
 use Rattle.log_compaction.specs.Crashes.{CrashInCompaction, FoldsAgain, IsOpenAs}
 use Rattle.log_compaction.specs.Fits.{AreNoneSpent}
-use Rattle.log_compaction.specs.Steps.{GuardedIsSafe}
 use Rattle.log_compaction.proofs.InUse.{CrashLaws, folded_are, lists_are, same_fold, same_many, some, used_fold}
 use Rattle.log_compaction.proofs.Stages.{AreSides, AddsFront, front_all, front_cut, front_none, head_low, other_low}
 
@@ -66,7 +64,7 @@ told_within [] (suc d) h is = absurd cc
 told_within (x ∷ ds) zero h is = omega arith
 told_within (x ∷ ds) (suc d) h is = omega (arith, told_within ds d h is)
 
-own_image : (bytes : List ℕ) → IsImage (settled bytes) bytes
+pub own_image : (bytes : List ℕ) → IsImage (settled bytes) bytes
 own_image bytes = record { no_shorter = omega arith; no_longer = omega arith; fixed = λ i lt fixed. refl }
 
 -- ---- moments
@@ -116,20 +114,20 @@ none_spent f low = record {
 -- ---- a crash
 
 module _ (laws : CrashLaws) (before after : List Device) (a : AreFolded before) (held : ℕ → List Record) (images : ℕ → List ℕ) (crash : CrashInCompaction before after a.head (length a.lists) a.fold held images) where
-  told : (d : ℕ) → d < 4 → (device_at before d).told ≡ Some (crash.histories d)
+  pub told : (d : ℕ) → d < 4 → (device_at before d).told ≡ Some (crash.histories d)
   told d lt = let at = crash.each d lt in at.0.told ∙ ap (λ (h : DeviceHistory). Some h) at.1
 
-  holds : (d : ℕ) → d < 4 → HoldsRecords (content (crash.histories d)) (held d)
+  pub holds : (d : ℕ) → d < 4 → HoldsRecords (content (crash.histories d)) (held d)
   holds d lt = let at = crash.each d lt in subst (λ (h : DeviceHistory). HoldsRecords (content h) (held d)) at.1 at.0.holds
 
-  durable : (d : ℕ) → d < 4 → disk (crash.histories d) ≡ settled (content (crash.histories d))
+  pub durable : (d : ℕ) → d < 4 → disk (crash.histories d) ≡ settled (content (crash.histories d))
   durable d lt = let at = crash.each d lt in subst (λ (h : DeviceHistory). disk h ≡ settled (content h)) at.1 at.0.durable
 
-  left : (d : ℕ) → d < 4 → IsImage (disk_after (crash.made d) (disk (crash.histories d))) (images d)
+  pub left : (d : ℕ) → d < 4 → IsImage (disk_after (crash.made d) (disk (crash.histories d))) (images d)
   left d lt = let at = crash.each d lt in subst (λ (h : DeviceHistory). IsImage (disk_after (crash.made d) (disk h)) (images d)) at.1 at.0.left
 
   -- while it is opened, it is left what it held
-  opening_leaves : (d : ℕ) → d < 4 → (made : List DevOp) (image : List ℕ) → IsFront made (opening_ops (content (crash.histories d))) → IsImage (disk_after made (disk (crash.histories d))) image → IsLog image (spelled (held d))
+  pub opening_leaves : (d : ℕ) → d < 4 → (made : List DevOp) (image : List ℕ) → IsFront made (opening_ops (content (crash.histories d))) → IsImage (disk_after made (disk (crash.histories d))) image → IsLog image (spelled (held d))
   opening_leaves d lt made image front is =
       at_front (disk (crash.histories d)) made (opening_ops (content (crash.histories d))) (λ (z : List ℕ). IsLog z (spelled (held d))) image
       (laws.opening_keeps (crash.histories d) (spelled (held d)) (durable d lt) (holds d lt).log) front is
@@ -148,24 +146,24 @@ module _ (laws : CrashLaws) (before after : List Device) (a : AreFolded before) 
   }
 
   -- no device got another call
+  pub touched_front : AllZip IsTouched before after → (d : ℕ) → d < 4 → IsFront (crash.made d) (opening_ops (content (crash.histories d)))
+  touched_front all d lt =
+      let rest = (crash.each d lt).2 in
+      let one : IsTouched (device_at before d) (device_at after d) = each_zip IsTouched before after _ _ d all (told_within before d (crash.histories d) (told d lt)) in
+      front_of_front (crash.histories d) (device_at after d).told (crash.made d) rest.0 (opening_ops (content (crash.histories d))) rest.1
+      (opened_front laws (crash.histories d) (device_at before d).told (device_at after d).told (told d lt) one.opened)
+
   pub touched_folds : AllZip IsTouched before after → FoldsAgain held a.head (length a.lists) a.fold images
-  touched_folds all = opening_folds front
-    where
-      front : (d : ℕ) → d < 4 → IsFront (crash.made d) (opening_ops (content (crash.histories d)))
-      front d lt =
-          let rest = (crash.each d lt).2 in
-          let one : IsTouched (device_at before d) (device_at after d) = each_zip IsTouched before after _ _ d all (told_within before d (crash.histories d) (told d lt)) in
-          front_of_front (crash.histories d) (device_at after d).told (crash.made d) rest.0 (opening_ops (content (crash.histories d))) rest.1
-          (opened_front laws (crash.histories d) (device_at before d).told (device_at after d).told (told d lt) one.opened)
+  touched_folds all = opening_folds (touched_front all)
 
   -- ---- all are open, and the logs in use are being compacted
 
   module _ (few : length a.lists ≤ 2) (low : IsUnspentFold a.fold) (devices : ℕ → OpenDevice) (more : ℕ → List DevOp) (open_as : (d : ℕ) → d < 4 → IsOpenAs (crash.histories d) (devices d) × (crash.made d ≡ opening_ops (content (crash.histories d)) ++ more d)) (moment : AreMade devices more a.head (other_side a.head (length a.lists)) (length a.lists) (group_for (length a.lists) a.fold)) where
     -- the disk of an open device
-    disk_open : (d : ℕ) → d < 4 → disk (devices d).history ≡ disk_after (opening_ops (content (crash.histories d))) (disk (crash.histories d))
+    pub disk_open : (d : ℕ) → d < 4 → disk (devices d).history ≡ disk_after (opening_ops (content (crash.histories d))) (disk (crash.histories d))
     disk_open d lt = ap disk (open_as d lt).0.history ∙ disk_with (crash.histories d) (opening_ops (content (crash.histories d)))
 
-    open_log : (d : ℕ) → d < 4 → DeviceLog (devices d).history (devices d).end (spelled (held d))
+    pub open_log : (d : ℕ) → d < 4 → DeviceLog (devices d).history (devices d).end (spelled (held d))
     open_log d lt =
         let at = (open_as d lt).0 in
         let bytes = content (devices d).history in
@@ -175,7 +173,7 @@ module _ (laws : CrashLaws) (before after : List Device) (a : AreFolded before) 
         let same : at.log.0 ≡ spelled (held d) = laws.list bytes at.log.0 (spelled (held d)) (laws.lists bytes (devices d).end at.log.0 at.log.1.log) kept in
         subst (λ (items : List (List ℕ)). DeviceLog (devices d).history (devices d).end items) same at.log.1
 
-    abbrev held_at : (d : ℕ) → d < 4 → Held
+    abbrev pub held_at : (d : ℕ) → d < 4 → Held
     held_at d lt = record { history = (devices d).history; end = (devices d).end; records = held d; holds = record { log = open_log d lt; each = (holds d lt).each } }
 
     -- behind the last device one that is there
@@ -227,12 +225,16 @@ module _ (laws : CrashLaws) (before after : List Device) (a : AreFolded before) 
         nothing_away devices more a.head (other_side a.head (length a.lists)) (length a.lists) (group_for (length a.lists) a.fold) d
         (λ on. omega (arith, on.before, low_other, past)) (λ on. omega (arith, on.before, low_head, past)) moment
 
-    pick_left : (d : ℕ) (c : (d < 4) ⊎ (4 ≤ d)) → IsImage (disk_after (more d) (disk (pick d c).history)) (pick_image d c)
-    pick_left d (inl lt) =
+    -- what is left of an open device
+    pub left_open : (d : ℕ) → d < 4 → IsImage (disk_after (more d) (disk (devices d).history)) (images d)
+    left_open d lt =
         let ops = opening_ops (content (crash.histories d)) in
         let same : disk_after (crash.made d) (disk (crash.histories d)) ≡ disk_after (more d) (disk (devices d).history) =
         ap (λ (xs : List DevOp). disk_after xs (disk (crash.histories d))) (open_as d lt).1 ∙ disk_join ops (more d) (disk (crash.histories d)) ∙ ap (disk_after (more d)) (sym (disk_open d lt)) in
         subst (λ (z : Disk). IsImage z (images d)) same (left d lt)
+
+    pick_left : (d : ℕ) (c : (d < 4) ⊎ (4 ≤ d)) → IsImage (disk_after (more d) (disk (pick d c).history)) (pick_image d c)
+    pick_left d (inl lt) = left_open d lt
     pick_left d (inr past) =
         let x = held_at 0 first_low in
         let same : settled (content x.history) ≡ disk_after (more d) (disk x.history) = sym x.holds.log.quiet ∙ ap (λ (xs : List DevOp). disk_after xs (disk x.history)) (sym (none_past d past)) in
@@ -294,12 +296,3 @@ module _ (laws : CrashLaws) (before after : List Device) (a : AreFolded before) 
 
   pub same_numbers : (b : AreFolded before) → (length b.lists ≡ length a.lists) × (b.fold ≡ a.fold)
   same_numbers b = (same_many laws before crash.histories told held holds b a, same_fold laws before crash.histories told held holds b a)
-
-pub guarded : CrashLaws → GuardedIsSafe
-guarded laws before after (inl touched) = record { folds = λ a held images crash. touched_folds laws before after a held images crash touched; keeps = inr (touched_safe before after touched) }
-guarded laws before after (inr mine) = record {
-  folds = λ a held images crash.
-      let same = same_numbers laws before after a held images crash mine.0 in
-      begun_folds laws before after a held images crash (subst (λ (n : ℕ). n ≤ 2) same.0 mine.1.few) (subst (λ (f : Folded). IsUnspentFold f) same.1 mine.1.unspent);
-  keeps = inl mine.0;
-}

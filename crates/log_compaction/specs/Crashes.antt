@@ -12,8 +12,8 @@ use Rattle.log_compact.specs.Compacting.{AreSameOrNext, group_for, other_side}
 use Rattle.log_compact.specs.Finding.{IsUsed}
 use Rattle.log_compact.specs.OnDevices.{AreMade, OpenDevice, IsFront}
 use Rattle.log_compact.specs.Sets.{IsFolded, IsSameFold, logs_from}
-use Rattle.log_opening.specs.Cuts.{HoldFour, IsCutCall, IsFrontOfCall}
-use Rattle.log_opening.specs.Devices.{Device, device_at}
+use Rattle.log_opening.specs.Cuts.{AreRecent, HoldFour, IsCutCall, IsFrontOfCall}
+use Rattle.log_opening.specs.Devices.{Device, HoldNoOld, device_at}
 use Rattle.log_opening.specs.Kept.{AreFolded}
 
 -- the device is opened, and is so a log, whose closed gate stands where it is said to
@@ -62,4 +62,8 @@ pub record FoldsAgain (held : ℕ → List Record) (was count : ℕ) (f : Folded
 pub record CompactsSafely (before after : List Device) : Type 0 where
   pub folds : (logs : AreFolded before) (held : ℕ → List Record) (images : ℕ → List ℕ)
       → CrashInCompaction before after logs.head (length logs.lists) logs.fold held images → FoldsAgain held logs.head (length logs.lists) logs.fold images
+  -- and where none of the logs in use was of format 1 with an item, none of those that are in use then is
+  pub recent : (logs : AreFolded before) (held : ℕ → List Record) (images : ℕ → List ℕ)
+      → (crash : CrashInCompaction before after logs.head (length logs.lists) logs.fold held images) → HoldNoOld logs.head (length logs.lists) before
+      → AreRecent images (folds logs held images crash).head (length logs.lists)
   pub keeps : AreFolded before ⊎ AllZip (λ (b a : Device). KeepsRecords b.told a.told) before after

@@ -2,7 +2,10 @@
 ghost use Rattle.log_compaction.specs.Fits.{CompactionFits};
 ghost use Rattle.log_compaction.specs.Steps.{GuardedIsSafe};
 
-use gate_log::{logs_are_lists, one_list, opening_is_safe};
+use gate_log::{
+    append_is_whole, beginning_is_safe, clear_is_safe, logs_are_lists, one_list, opening_is_safe,
+    upgrade_is_safe,
+};
 use log_compact::{
     crashed_compaction_folds, folds_are_begun, folds_are_of_records, fronts_of_records,
     fronts_tell, one_fold, one_use,
@@ -20,7 +23,7 @@ pub fn compaction_fits()
 }
 
 /// Where the logs in use were not refused, or no device got another call than those of opening, these fold after each crash to what they
-/// folded to.
+/// folded to, and none of them is of format 1 with an item, where none was.
 pub(crate) fn guarded_is_safe()
     ensures { GuardedIsSafe }
 {
@@ -35,4 +38,8 @@ pub(crate) fn guarded_is_safe()
     one_list_of_records();
     one_use();
     opening_is_safe();
+    beginning_is_safe();
+    clear_is_safe();
+    upgrade_is_safe();
+    append_is_whole();
 }

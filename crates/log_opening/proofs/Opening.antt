@@ -12,7 +12,7 @@ use Rattle.gate_log.specs.Bytes.{IsPlacedLogAt}
 use Rattle.gate_log.specs.Device.{DeviceLog, HasFormat}
 use Rattle.gate_log.specs.State.{LogState}
 use Rattle.gate_log.specs.Opened.{Opened, Refused, bytes_of}
-use Rattle.record_log.specs.Records.{HoldsRecords, KeepsRecords}
+use Rattle.record_log.specs.Records.{IsKeptImage, KeepsRecords}
 use Rattle.snap_outside.proofs.Images.{image_is}
 use Rattle.log_opening.specs.declared.refusals.LogsNo.{LogsNo}
 use Rattle.log_opening.specs.declared.refusals.LogsNo.TheVariants as ending
@@ -100,7 +100,7 @@ keeps_same None = tt
 keeps_same (Some h) = (
   [],
   ap (λ (l : List _). Some (record { first = h.first; ops = l })) (sym (append-nil h.ops)),
-  λ quiet rs held image left. subst (λ (b : List ℕ). HoldsRecords b rs) (sym (image_is (content h) image (subst (λ d. IsImage d image) quiet left))) held,
+  λ quiet rs held image left. subst (IsKeptImage (content h) rs) (sym (image_is (content h) image (subst (λ d. IsImage d image) quiet left))) (held, (λ recent. recent)),
 )
 
 pub untouched : (d : Device) → IsTouched d d

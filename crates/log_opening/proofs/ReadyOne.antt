@@ -108,6 +108,14 @@ module _ (laws : ReadyLaws) (b : Device) (l k : LogState) (items : List LogItem)
       by None is = tt
       by (Some h) is = sym is ∙ one
 
+  -- and so is what it holds now
+  opened_first : l.format ≡ 1 → IfSome l.told (λ g. format_in (content g) ≡ 1)
+  opened_first one = by l.told ready.formatted
+    where
+      by : (told : Option DeviceHistory) → HasFormat told l.format → IfSome told (λ g. format_in (content g) ≡ 1)
+      by None is = tt
+      by (Some g) is = sym is.1 ∙ one
+
   -- it was of format 2
   begun_still : l.format ≡ 2 → (end : ℕ) × DeviceBegun b.told l.told end items
   begun_still two =
@@ -117,8 +125,8 @@ module _ (laws : ReadyLaws) (b : Device) (l k : LogState) (items : List LogItem)
   begun_now : l.format ≡ 1 → IsUpgraded l k → (end : ℕ) × DeviceBegun b.told k.told end items
   begun_now one up = (on.opened.0, (l.told, on.opened.1, first_upgrades b.told l.told k.told on.opened.0 items l.format on.opened.1 was one up.adds))
 
-  keeps_now : IsUpgraded l k → KeepsRecords b.told k.told
-  keeps_now up = laws.keeps b.told l.told k.told on.opened.0 l.end items on.opened.1 ready.holds on.safe.records up.safe
+  keeps_now : l.format ≡ 1 → IsUpgraded l k → KeepsRecords b.told k.told
+  keeps_now one up = laws.keeps b.told l.told k.told on.opened.0 l.end items on.opened.1 ready.holds (opened_first one) on.safe.records up.safe
 
   holds_now : IsUpgraded l k → IfSome k.told (λ g. DeviceLog g k.end (bytes_of items))
   holds_now up = subst (λ (n : ℕ). IfSome k.told (λ g. DeviceLog g n (bytes_of items))) (sym up.gate) (by l.told k.told up.adds up.upgraded.0 ready.holds)
@@ -144,7 +152,7 @@ module _ (laws : ReadyLaws) (b : Device) (l k : LogState) (items : List LogItem)
   begun_on listed (inl same) two =
       let stays : l.format ≡ 2 = sym (ap (λ (x : LogState). x.format) same.0) ∙ two in
       subst (λ (x : LogState). IsBegunOn b (as_device x) items) (sym same.0) (record { begun = begun_still stays; placed = on.placed; safe = on.safe })
-  begun_on listed (inr up) two = record { begun = begun_now up.1 up.2; placed = on.placed; safe = record { records = keeps_now up.2; later = omega (arith, on.safe.later, up.2.later) } }
+  begun_on listed (inr up) two = record { begun = begun_now up.1 up.2; placed = on.placed; safe = record { records = keeps_now up.1 up.2; later = omega (arith, on.safe.later, up.2.later) } }
 
   pub still_ready : (listed : List LogItem) → IsMadeReady l k listed → IsReadyLog k items
   still_ready listed (inl same) = subst (λ (x : LogState). IsReadyLog x items) (sym same.0) ready
@@ -181,7 +189,7 @@ module _ (laws : ReadyLaws) (b : Device) (l k : LogState) (items : List LogItem)
 
   pub kept_safe : (listed : List LogItem) → IsMadeReady l k listed → IsKeptSafe b (as_device k)
   kept_safe listed (inl same) = subst (λ (x : LogState). IsKeptSafe b (as_device x)) (sym same.0) on.safe
-  kept_safe listed (inr up) = record { records = keeps_now up.2; later = omega (arith, on.safe.later, up.2.later) }
+  kept_safe listed (inr up) = record { records = keeps_now up.1 up.2; later = omega (arith, on.safe.later, up.2.later) }
 
   pub handled : IsMadeReady l k items → IsHandled b (as_device k)
   handled made = record { prepared = inr (inl (prepared made)); safe = kept_safe items made }
@@ -193,7 +201,7 @@ module _ (laws : ReadyLaws) (b : Device) (l k : LogState) (items : List LogItem)
 
   pub failed_safe : (listed : List LogItem) → IsNotMadeReady l k listed → IsKeptSafe b (as_device k)
   failed_safe listed not = record {
-    records = laws.keeps b.told l.told k.told on.opened.0 l.end items on.opened.1 ready.holds on.safe.records not.2.safe;
+    records = laws.keeps b.told l.told k.told on.opened.0 l.end items on.opened.1 ready.holds (opened_first not.1) on.safe.records not.2.safe;
     later = omega (arith, on.safe.later, not.2.later);
   }
 

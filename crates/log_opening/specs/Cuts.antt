@@ -1,5 +1,6 @@
 -- What the four devices of a call hold, and what a crash in it leaves of them.
-use Rattle.std.specs.Prelude.{◌≡◌, ℕ, ◌<◌, Some, List, ◌++◌}
+use Rattle.std.specs.Prelude.{◌≡◌, ℕ, ◌+◌, ◌<◌, Some, List, ◌++◌}
+use Rattle.gate_log.specs.Bytes.{IsOld}
 use Rattle.record_log.specs.Records.{HoldsRecords}
 use Rattle.snap_outside.specs.declared.devices.DevOp.{DevOp}
 use Rattle.snap_outside.specs.Disk.{DeviceHistory, content, disk, disk_after, settled, with_ops, IsImage}
@@ -9,6 +10,10 @@ use Rattle.log_opening.specs.Devices.{Device, device_at}
 -- these bytes hold these records, device by device
 abbrev pub HoldFour : (ℕ → List ℕ) → (ℕ → List Record) → Type 0
 HoldFour images now = (d : ℕ) → d < 4 → HoldsRecords (images d) (now d)
+
+-- of so many of these bytes from the head on none is a log of format 1 with an item
+abbrev pub AreRecent : (ℕ → List ℕ) → ℕ → ℕ → Type 0
+AreRecent images head count = (l : ℕ) → l < count → ¬ IsOld (images (head + l))
 
 -- the four devices tell these bytes
 abbrev pub TellBytes : List Device → (ℕ → List ℕ) → Type 0

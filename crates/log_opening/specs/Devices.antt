@@ -1,10 +1,11 @@
 -- Devices as contracts see them.
-use Rattle.std.specs.Prelude.{◌≡◌, ◌≢◌, ℕ, ◌+◌, ◌<◌, ◌≤◌, ◌⊎◌, List, [], ◌∷◌, ◌++◌, map, take, drop, Option, None, IfSome, slice_index_or}
+use Rattle.std.specs.Prelude.{◌≡◌, ℕ, ◌+◌, ◌<◌, ◌≤◌, ◌⊎◌, List, [], ◌∷◌, ◌++◌, map, take, drop, Option, None, IfSome, slice_index_or}
 use Rattle.std.specs.List.{AllZip}
 use Rattle.snap_outside.specs.declared.devices.DevOp.{DevOp}
 use Rattle.snap_outside.specs.Disk.{DeviceHistory, content, AddsAll, AddsUpToFault}
 use Rattle.gate_log.specs.Appends.{clear_ops, upgrade_ops}
-use Rattle.gate_log.specs.Bytes.{IsLogOf, format_in}
+pub use Rattle.gate_log.specs.Bytes.{IsOld}
+use Rattle.gate_log.specs.Bytes.{format_in}
 use Rattle.gate_log.specs.Opened.{Opened, MayBeMade, Refused}
 use Rattle.gate_log.specs.declared.opens.OpenNo.TheVariants as refusal
 use Rattle.gate_log.specs.declared.logs.LogItem.{LogItem}
@@ -67,10 +68,6 @@ LacksMemory Asked before after =
     ⊎ ((log : ℕ) × Asked log × Refused (device_at before log).told (device_at after log).told refusal.Memory × IsReached log before after)
 
 -- ---- logs that are to be appended to
-
--- the bytes are a log of format 1 with an item
-abbrev pub IsOld : List ℕ → Type 0
-IsOld bytes = (items : List (List ℕ)) × IsLogOf bytes 1 items × (items ≢ [])
 
 -- the device holds a log of format 1 with an item, if it tells what it holds
 abbrev pub HoldsOld : Device → Type 0

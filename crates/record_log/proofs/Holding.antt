@@ -1,21 +1,20 @@
 -- What holds records, and what a crash leaves of it.
 use Rattle.std.proofs.Common.{◌≡◌, ℕ, ◌<◌, ◌≤◌, inl, inr, List, [], ◌∷◌, length, refl, sym, ap, subst, arith, Option, Some, None}
 use Rattle.std.proofs.lemmas.Bool.{cases_lt}
-use Rattle.snap_outside.specs.declared.devices.DevOp.{DevOp}
 use Rattle.snap_outside.specs.declared.devices.DevOp.TheVariants.{Sync}
-use Rattle.snap_outside.specs.Disk.{DeviceHistory, Disk, disk, content, settled, op_done, IsImage, EachMoment, AddsAll}
+use Rattle.snap_outside.specs.Disk.{DeviceHistory, Disk, disk, content, settled, IsImage, AddsAll}
 use Rattle.gate_log.specs.declared.logs.LogItem.{LogItem}
 use Rattle.gate_log.specs.declared.opens.OpenNo.{OpenNo}
 use Rattle.gate_log.specs.declared.opens.OpenNo.TheVariants.{NotALog, Damage, Device, Memory}
-use Rattle.gate_log.specs.Bytes.{IsLog, IsLogAt, DiffersAt, IsDamagedAt}
+use Rattle.gate_log.specs.Bytes.{IsLog, IsLogAt, IsOld, DiffersAt, IsDamagedAt}
 use Rattle.gate_log.specs.Device.{DeviceLog}
 use Rattle.gate_log.specs.Opened.{bytes_of, Opened, Refused, MadeSafely}
 use Rattle.gate_log.specs.declared.limits.TheConstants.{NEW_LOG_SIZE}
 use Rattle.gate_log.specs.LogLaws.{OneList, LogAtIsLog, PlacedIsLogAt, DamageIsNoLog, DifferenceIsNoLog}
-use Rattle.snap_outside.specs.Moments.{adds_nothing}
+use Rattle.snap_outside.specs.Moments.{adds_nothing, moments_weaker}
 use Rattle.txn_records.specs.RecordLaws.{OneRecord}
 use Rattle.txn_records.specs.declared.records.Record.{Record}
-use Rattle.record_log.specs.Records.{spelled, HoldsRecords, RecordLog, AreItemsOf, IsFirstBadIn, KeepsRecords}
+use Rattle.record_log.specs.Records.{spelled, HoldsRecords, RecordLog, AreItemsOf, IsFirstBadIn, IsKeptImage, KeepsRecords}
 use Rattle.record_log.proofs.Spelling.{one_spelling, items_spelled, items_each, none_bad}
 
 pub one_list_held : (lists : OneList) (records : OneRecord) (bytes : List ℕ) (rs xs : List Record) → HoldsRecords bytes rs → HoldsRecords bytes xs → rs ≡ xs
@@ -81,26 +80,32 @@ short_holds_none : (bytes : List ℕ) (rs : List Record) → length bytes ≤ NE
 short_holds_none bytes rs short (inl log) = none_spelled rs log.1
 short_holds_none bytes rs short (inr log) = absurd (omega (arith, short, log.0))
 
-held_images : (rs : List Record) → [] ≡ rs → (d : Disk) (ops : List DevOp) → EachMoment d ops (λ image. IsLog image []) → EachMoment d ops (λ image. HoldsRecords image rs)
-held_images rs none d [] all = λ image left. subst (λ (l : List Record). HoldsRecords image l) none (record { log = all image left; each = tt })
-held_images rs none d (op ∷ ops) all = (
-  (λ image left. subst (λ (l : List Record). HoldsRecords image l) none (record { log = all.0 image left; each = tt })),
-  held_images rs none (op_done op d) ops all.1,
-)
+-- a log of no item is none of format 1 with an item
+pub bare : OneList → (image : List ℕ) → IsLog image [] → ¬ IsOld image
+bare lists image log = λ old. old.2 (lists image old.0 [] old.1.0 log)
 
-made_keeps : (h : DeviceHistory) (new : Option DeviceHistory) → length (content h) ≤ NEW_LOG_SIZE → MadeSafely (Some h) new → KeepsRecords (Some h) new
-made_keeps h new short made =
-    let safely = made short in
-    (safely.0, safely.1, (λ quiet rs held. held_images rs (short_holds_none (content h) rs short held.log) (disk h) safely.0 safely.2))
+none_kept : OneList → (bytes : List ℕ) (rs : List Record) → [] ≡ rs → (image : List ℕ) → IsLog image [] → IsKeptImage bytes rs image
+none_kept lists bytes rs none image log = (subst (λ (l : List Record). HoldsRecords image l) none (record { log = log; each = tt }), (λ recent. bare lists image log))
 
-module _ (images : ImagesOfSettled) where
+made_keeps : OneList → (h : DeviceHistory) (new : Option DeviceHistory) → length (content h) ≤ NEW_LOG_SIZE → MadeSafely (Some h) new → KeepsRecords (Some h) new
+made_keeps lists h new short made =
+    let safely = made short in (
+      safely.0,
+      safely.1,
+      (λ quiet rs held. moments_weaker (λ image. IsLog image []) (IsKeptImage (content h) rs) (none_kept lists (content h) rs (short_holds_none (content h) rs short held.log)) (disk h) safely.0 safely.2),
+    )
+
+module _ (lists : OneList) (images : ImagesOfSettled) where
+  settled_kept : (bytes : List ℕ) (rs : List Record) → HoldsRecords bytes rs → (image : List ℕ) → IsImage (settled bytes) image → IsKeptImage bytes rs image
+  settled_kept bytes rs held image left = subst (IsKeptImage bytes rs) (sym (images bytes image left)) (held, (λ recent. recent))
+
   synced_keeps : (h : DeviceHistory) (new : Option DeviceHistory) → AddsAll (Some h) new (Sync ∷ []) → KeepsRecords (Some h) new
   synced_keeps h new adds = (
     Sync ∷ [],
     adds,
     (λ quiet rs held. (
-      (λ image left. settled_image images (content h) rs held image (subst (λ (d : Disk). IsImage d image) quiet left)),
-      settled_image images (content h) rs held,
+      (λ image left. settled_kept (content h) rs held image (subst (λ (d : Disk). IsImage d image) quiet left)),
+      settled_kept (content h) rs held,
     )),
   )
 
@@ -108,14 +113,14 @@ module _ (images : ImagesOfSettled) where
   untouched_keeps h new same = (
     [],
     adds_nothing (Some h) new same,
-    (λ quiet rs held image left. settled_image images (content h) rs held image (subst (λ (d : Disk). IsImage d image) quiet left)),
+    (λ quiet rs held image left. settled_kept (content h) rs held image (subst (λ (d : Disk). IsImage d image) quiet left)),
   )
 
   pub opened_keeps : (old new : Option DeviceHistory) (end : ℕ) (items : List LogItem) → Opened old new end items → MadeSafely old new → KeepsRecords old new
   opened_keeps None new end items opened made = tt
   opened_keeps (Some h) new end items opened made = elim (cases_lt NEW_LOG_SIZE (length (content h))) [
     | inl long ↦ synced_keeps h new (opened.read long).1
-    | inr short ↦ made_keeps h new short made
+    | inr short ↦ made_keeps lists h new short made
   ]
 
   pub refused_keeps : (old new : Option DeviceHistory) (why : OpenNo) → Refused old new why → MadeSafely old new → KeepsRecords old new
@@ -124,6 +129,6 @@ module _ (images : ImagesOfSettled) where
   refused_keeps (Some h) new (Damage offset) refused made = untouched_keeps h new refused.0
   refused_keeps (Some h) new Device refused made = elim refused [
     | inl same ↦ untouched_keeps h new same
-    | inr some ↦ made_keeps h new some.0 made
+    | inr some ↦ made_keeps lists h new some.0 made
   ]
   refused_keeps (Some h) new Memory refused made = untouched_keeps h new refused

@@ -1,6 +1,7 @@
 pub mod Appending
 pub mod Growing
 pub mod Holding
+pub mod MarksKept
 pub mod Reading
 pub mod Sizes
 pub mod Spelling

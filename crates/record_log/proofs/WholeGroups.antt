@@ -34,11 +34,11 @@ split_front (x ∷ xs) ys (u ∷ us) vs same =
 disk_with : (h : DeviceHistory) (ops : List DevOp) → disk (with_ops h ops) ≡ disk_after ops (disk h)
 disk_with h ops = disk_join h.ops ops (settled h.first)
 
-disk_behind : (h : DeviceHistory) (made first more : List DevOp) → made ≡ first ++ more → disk_after made (disk h) ≡ disk_after more (disk (with_ops h first))
+pub disk_behind : (h : DeviceHistory) (made first more : List DevOp) → made ≡ first ++ more → disk_after made (disk h) ≡ disk_after more (disk (with_ops h first))
 disk_behind h made first more same =
     ap (λ (l : List DevOp). disk_after l (disk h)) same ∙ disk_join first more (disk h) ∙ ap (λ (d : Disk). disk_after more d) (sym (disk_with h first))
 
-may_split : (end : ℕ) (whole later : List (List Record)) → MayAppendGroups end (whole ++ later) → MayAppendGroups end whole × MayAppendGroups (end_behind_groups end whole) later
+pub may_split : (end : ℕ) (whole later : List (List Record)) → MayAppendGroups end (whole ++ later) → MayAppendGroups end whole × MayAppendGroups (end_behind_groups end whole) later
 may_split end [] later may = (tt, may)
 may_split end (group ∷ whole) later may =
     let rest = may_split (end_behind end (spelled group)) whole later may.1 in
@@ -50,7 +50,7 @@ module _ (gives : AppendGives) (keeps : AppendKeeps) (log_at : LogAtIsLog) (imag
       settled_image images (content h) rs (log_holds log_at h end rs log) image (subst (λ (d : Disk). IsImage d image) log.log.quiet left)
 
   -- behind one append
-  grown : (h : DeviceHistory) (end : ℕ) (rs group : List Record) → MayAppendGroup end group → RecordLog h end rs
+  pub grown : (h : DeviceHistory) (end : ℕ) (rs group : List Record) → MayAppendGroup end group → RecordLog h end rs
       → RecordLog (with_ops h (append_ops end (spelled group))) (end_behind end (spelled group)) (rs ++ group)
   grown h end rs group may log = record {
     log = subst (λ (items : List (List ℕ)). DeviceLog (with_ops h (append_ops end (spelled group))) (end_behind end (spelled group)) items) (spelled_more rs group)
@@ -116,7 +116,7 @@ module _ (gives : AppendGives) (keeps : AppendKeeps) (log_at : LogAtIsLog) (imag
             }
       ]
 
-  groups_give : (h : DeviceHistory) (end : ℕ) (rs : List Record) (groups : List (List Record)) → MayAppendGroups end groups → RecordLog h end rs
+  pub groups_give : (h : DeviceHistory) (end : ℕ) (rs : List Record) (groups : List (List Record)) → MayAppendGroups end groups → RecordLog h end rs
       → RecordLog (with_ops h (groups_ops end groups)) (end_behind_groups end groups) (rs ++ all_records groups)
   groups_give h end rs [] may log =
       subst (λ (l : List Record). RecordLog (with_ops h []) end l) (sym (append-nil rs))
@@ -141,7 +141,7 @@ module _ (gives : AppendGives) (keeps : AppendKeeps) (log_at : LogAtIsLog) (imag
       (subst (λ (d : Disk). IsImage d image) (disk_behind h (appends ++ begun) appends begun refl) is)
 
   module _ (placed : PlacedIsLogAt) (lists : OneList) (beginning_gives : BeginningGives) (beginning_keeps : BeginningKeeps) where
-    opened_gives : (h : DeviceHistory) (opened : Option DeviceHistory) (end : ℕ) (found : List LogItem) (rs : List Record) → Opened (Some h) opened end found → HoldsRecords (content h) rs
+    pub opened_gives : (h : DeviceHistory) (opened : Option DeviceHistory) (end : ℕ) (found : List LogItem) (rs : List Record) → Opened (Some h) opened end found → HoldsRecords (content h) rs
         → RecordLog (with_ops h (beginning_ops (content h))) end rs
     opened_gives h opened end found rs is held = record {
       log = subst (λ (items : List (List ℕ)). DeviceLog (with_ops h (beginning_ops (content h))) end items)

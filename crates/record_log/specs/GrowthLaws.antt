@@ -5,6 +5,7 @@ use Rattle.snap_outside.specs.declared.devices.DevOp.{DevOp}
 use Rattle.snap_outside.specs.Disk.{DeviceHistory, disk, disk_after, content, settled, with_ops, IsImage, AddsAll, AddsUpToFault}
 use Rattle.gate_log.specs.declared.logs.LogItem.{LogItem}
 use Rattle.gate_log.specs.Appends.{append_ops, end_behind}
+use Rattle.gate_log.specs.Bytes.{IsOld}
 use Rattle.gate_log.specs.Opened.{beginning_ops, Opened}
 use Rattle.txn_records.specs.declared.records.Record.{Record}
 use Rattle.record_log.specs.Growth.{all_records, groups_ops, end_behind_groups, MayAppendGroup, MayAppendGroups, IsGrowth, GrewBy, upgrading_of, begun_groups, IsNextBegun, HoldsWhole, Leaves}
@@ -57,6 +58,16 @@ MomentKeeps =
     → MayAppendGroups end (whole ++ later) → IsNextBegun (end_behind_groups end whole) later begun
     → (image : List ℕ) → IsImage (disk_after (beginning_ops (content h) ++ (groups_ops end whole ++ begun)) (disk h)) image
     → HoldsWhole (rs ++ all_records whole) later begun image
+
+-- And it is no log of format 1 with an item.
+abbrev pub MomentIsRecent : Type 0
+MomentIsRecent =
+    (h : DeviceHistory) (opened : Option DeviceHistory) (end : ℕ) (found : List LogItem)
+    (rs : List Record) (whole later : List (List Record)) (begun : List DevOp)
+    → Opened (Some h) opened end found → HoldsRecords (content h) rs
+    → MayAppendGroups end (whole ++ later) → IsNextBegun (end_behind_groups end whole) later begun
+    → (image : List ℕ) → IsImage (disk_after (beginning_ops (content h) ++ (groups_ops end whole ++ begun)) (disk h)) image
+    → ¬ IsOld image
 
 -- At each moment, whatever a crash leaves holds the earlier records with those of the appends that are whole, or with
 -- those of one more that has begun.

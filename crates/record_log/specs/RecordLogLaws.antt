@@ -6,7 +6,7 @@ use Rattle.snap_outside.specs.Disk.{DeviceHistory, content}
 use Rattle.gate_log.specs.declared.limits.TheConstants.{LARGEST_GROUP, NEW_LOG_SIZE}
 use Rattle.gate_log.specs.declared.logs.LogItem.{LogItem}
 use Rattle.gate_log.specs.declared.opens.OpenNo.{OpenNo}
-use Rattle.gate_log.specs.Bytes.{items_bytes, DiffersAt, IsDamagedAt}
+use Rattle.gate_log.specs.Bytes.{items_bytes, format_in, DiffersAt, IsDamagedAt}
 use Rattle.gate_log.specs.Device.{DeviceLog, MayAppend, UpgradesSafely}
 use Rattle.gate_log.specs.Opened.{bytes_of, Opened, Refused, MadeSafely}
 use Rattle.txn_records.specs.declared.records.Record.{Record}
@@ -68,11 +68,12 @@ OpeningKeepsRecords =
 abbrev pub RefusalKeepsRecords : Type 0
 RefusalKeepsRecords = (old new : Option DeviceHistory) (no : OpenNo) → Refused old new no → MadeSafely old new → KeepsRecords old new
 
--- the upgrade of an opened log loses no record, whatever it comes to and whatever a crash leaves
+-- The upgrade of an opened log of format 1 loses no record, whatever it comes to and whatever a crash leaves. The upgrade of one of format 2
+-- might leave any mark, also that of format 1.
 abbrev pub UpgradeKeepsRecords : Type 0
 UpgradeKeepsRecords =
     (old opened new : Option DeviceHistory) (found_end end : ℕ) (items : List LogItem)
-    → Opened old opened found_end items → IfSome opened (λ g. DeviceLog g end (bytes_of items))
+    → Opened old opened found_end items → IfSome opened (λ g. DeviceLog g end (bytes_of items)) → IfSome opened (λ g. format_in (content g) ≡ 1)
     → KeepsRecords old opened → UpgradesSafely opened new end → KeepsRecords old new
 
 -- ---- sizes

@@ -4,7 +4,7 @@ use Rattle.std.specs.List.{AllByRecursion}
 use Rattle.snap_outside.specs.declared.devices.DevOp.{DevOp}
 use Rattle.snap_outside.specs.Disk.{DeviceHistory, disk, content, settled, EachMoment, AddsAll}
 use Rattle.gate_log.specs.declared.logs.LogItem.{LogItem}
-use Rattle.gate_log.specs.Bytes.{IsLog}
+use Rattle.gate_log.specs.Bytes.{IsLog, IsOld}
 use Rattle.gate_log.specs.Device.{DeviceLog}
 use Rattle.txn_records.specs.declared.records.Record.{Record}
 use Rattle.txn_records.specs.Records.{record_bytes, IsRecord}
@@ -51,12 +51,17 @@ AreNoRecords items Memory = ⊤
 
 -- ---- crashes
 
--- Whatever a crash leaves at any moment of the call holds the records that the device held, if it was settled.
+-- the image holds these records, and is no log of format 1 with an item, where the bytes were none
+abbrev pub IsKeptImage : List ℕ → List Record → List ℕ → Type 0
+IsKeptImage bytes rs image = HoldsRecords image rs × (¬ IsOld bytes → ¬ IsOld image)
+
+-- Whatever a crash leaves at any moment of the call holds the records that the device held, if it was settled; and it is no log of format 1
+-- with an item, where the device held none.
 abbrev pub KeepsRecords : Option DeviceHistory → Option DeviceHistory → Type 0
 KeepsRecords old new =
     IfSome old (λ h. (ops : List DevOp) × AddsAll old new ops
     × (disk h ≡ settled (content h) → (rs : List Record) → HoldsRecords (content h) rs
-    → EachMoment (disk h) ops (λ image. HoldsRecords image rs)))
+    → EachMoment (disk h) ops (IsKeptImage (content h) rs)))
 
 -- The device held these records; now it holds the same with some added.
 abbrev pub AppendsRecords : Option DeviceHistory → Option DeviceHistory → ℕ → ℕ → List Record → Type 0

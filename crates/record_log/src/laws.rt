@@ -41,21 +41,24 @@ pub fn records_are_held()
     logs_are_lists();
 }
 
-/// Opening loses no record, whatever a crash leaves.
+/// Opening loses no record, whatever a crash leaves, and leaves no log of format 1 with an item where there was none.
 pub fn opening_keeps()
     ensures { OpeningKeepsRecords }
 {
     images_of_settled();
+    one_list();
 }
 
-/// An opening that is refused loses no record, whatever a crash leaves.
+/// An opening that is refused loses no record either.
 pub fn refused_keeps()
     ensures { RefusalKeepsRecords }
 {
     images_of_settled();
+    one_list();
 }
 
-/// An upgrade of a log that was opened loses no record, whatever a crash leaves.
+/// An upgrade of a log of format 1 that was opened loses no record, whatever a crash leaves, and leaves no log of format 1 with an item where
+/// there was none.
 pub fn upgrade_keeps()
     ensures { UpgradeKeepsRecords }
 {

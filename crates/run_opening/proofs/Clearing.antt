@@ -12,7 +12,7 @@ use Rattle.gate_log.specs.LogLaws.{OneReading, OneList, OpeningAdds, OpeningGive
 use Rattle.gate_log.specs.Opened.{bytes_of, opening_ops, Opened}
 use Rattle.gate_log.specs.State.{LogState, log_at}
 use Rattle.txn_records.specs.declared.records.Record.{Record}
-use Rattle.record_log.specs.Records.{spelled, HoldsRecords, KeepsRecords}
+use Rattle.record_log.specs.Records.{spelled, HoldsRecords, IsKeptImage, KeepsRecords}
 use Rattle.log_compact.specs.Compacting.{IsOnSide, other_side}
 use Rattle.log_compact.specs.Sides.{AreDone, IsCleared, IsClearFailed, IsDoneUpTo}
 use Rattle.log_opening.specs.Counted.{IsAsideLog}
@@ -72,7 +72,7 @@ module _ (laws : ClearLaws) (h : DeviceHistory) (mid : Option DeviceHistory) (it
 
   all_moments : (rs : List Record) (ops : List DevOp) → disk h ≡ settled (content h) → HoldsRecords (content h) rs → EachMoment (disk between) ops EitherItems → EachMoment (disk h) (keeps.0 ++ ops) (Either rs)
   all_moments rs ops quiet held later =
-      let first = moments_weaker (λ image. HoldsRecords image rs) (Either rs) (λ image is. inl is) (disk h) keeps.0 (keeps.2 quiet rs held) in
+      let first = moments_weaker (IsKeptImage (content h) rs) (Either rs) (λ image is. inl is.0) (disk h) keeps.0 (keeps.2 quiet rs held) in
       let behind = moments_weaker EitherItems (Either rs) (as_records rs held) (disk between) ops later in
       moments_join (disk h) keeps.0 ops (Either rs) first (subst (λ (d : Disk). EachMoment d ops (Either rs)) (disk_join h.ops keeps.0 (settled h.first)) behind)
 
@@ -99,7 +99,7 @@ none_emptied None new keeps = tt
 none_emptied (Some h) new keeps = (
   keeps.0,
   keeps.1,
-  (λ quiet rs held. moments_weaker (λ image. HoldsRecords image rs) (λ image. HoldsRecords image rs ⊎ HoldsRecords image []) (λ image is. inl is) (disk h) keeps.0 (keeps.2 quiet rs held)),
+  (λ quiet rs held. moments_weaker (IsKeptImage (content h) rs) (λ image. HoldsRecords image rs ⊎ HoldsRecords image []) (λ image is. inl is.0) (disk h) keeps.0 (keeps.2 quiet rs held)),
 )
 
 -- ---- which are to be cleared

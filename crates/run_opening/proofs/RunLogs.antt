@@ -1,24 +1,33 @@
 -- The logs of a run that are opened and written to, log by log.
-use Rattle.std.proofs.Common.{◌≡◌, ℕ, inl, List, [], ◌∷◌, ◌++◌, append_assoc, append-nil, refl, sym, ◌∙◌, ap, subst, arith, Option, Some, None}
+use Rattle.std.proofs.Common.{◌≡◌, ℕ, inl, inr, List, [], ◌∷◌, ◌++◌, append_assoc, append-nil, refl, sym, ◌∙◌, ap, subst, arith, Option, Some, None}
+use Rattle.std.proofs.lemmas.List.{append_cancel_left}
 use Rattle.std.specs.Prelude.{IfSome, ◌⊎◌}
 use Rattle.snap_outside.specs.declared.devices.DevOp.{DevOp}
-use Rattle.snap_outside.specs.Disk.{DeviceHistory, Disk, disk, content, settled, EachMoment, AddsAll, with_ops}
-use Rattle.snap_outside.specs.Moments.{adds_join, moments_join, moments_weaker, disk_join}
+use Rattle.snap_outside.specs.Disk.{DeviceHistory, Disk, disk, content, settled, op_done, EachMoment, AddsAll, with_ops}
+use Rattle.snap_outside.specs.Moments.{adds_join, adds_nothing, moments_join, moments_weaker, disk_join}
 use Rattle.gate_log.specs.declared.logs.LogItem.{LogItem}
 use Rattle.gate_log.specs.Appends.{append_ops, end_behind, upgrading_ops}
-use Rattle.gate_log.specs.Device.{DeviceLog}
-use Rattle.gate_log.specs.LogLaws.{OneReading, OpeningAdds, BeginningGives}
+use Rattle.gate_log.specs.Bytes.{IsOld, marked_format}
+use Rattle.gate_log.specs.Device.{DeviceLog, HasFormat}
+use Rattle.gate_log.specs.LogLaws.{AppendKeepsMark, OneReading, OpeningAdds, BeginningGives, MarkedIsSecond}
 use Rattle.gate_log.specs.Opened.{bytes_of, opening_ops, beginning_ops, Opened}
 use Rattle.gate_log.specs.State.{LogState, IsUntouched}
+use Rattle.gate_log.proofs.AppendDisks.{moments_front}
 use Rattle.txn_records.specs.declared.records.Record.{Record}
 use Rattle.record_log.specs.Growth.{all_records, MayAppendGroup, GrewBy, upgrading_of}
 use Rattle.record_log.specs.GrowthLaws.{OpeningGrows, GroupGrows, FaultGrows}
-use Rattle.record_log.specs.Records.{spelled, HoldsRecords, RecordLog, AreItemsOf, KeepsRecords, AppendsRecords, CrashesRecords}
+use Rattle.record_log.specs.Records.{spelled, HoldsRecords, RecordLog, AreItemsOf, IsKeptImage, KeepsRecords, AppendsRecords, CrashesRecords}
 use Rattle.record_log.specs.RecordLogLaws.{OneListOfRecords, OpenedHeld, OpenedHolds}
 use Rattle.log_opening.specs.Counted.{IsUsedLog}
 use Rattle.log_opening.specs.Devices.{Device}
-use Rattle.run_opening.specs.Opens.{IsRunLog, as_groups, KeepsOrAdds}
-use Rattle.run_opening.specs.Writes.{IsWritten}
+use Rattle.log_opening.specs.declared.refusals.LogsNo.{LogsNo}
+use Rattle.run_opening.specs.Opens.{IsRunLog, IsKeptOrAdded, as_groups, KeepsOrAdds}
+use Rattle.run_opening.specs.Writes.{IsNotWritten, IsWritten}
+
+-- what the logs promise of an append to a log of format 2
+pub record AppendLaws : Type 0 where
+  pub mark : AppendKeepsMark
+  pub second : MarkedIsSecond
 
 -- what the logs promise
 pub record LogLaws : Type 0 where
@@ -31,6 +40,7 @@ pub record LogLaws : Type 0 where
   pub grows : OpeningGrows
   pub group : GroupGrows
   pub fault : FaultGrows
+  pub append : AppendLaws
 
 -- ---- opened
 
@@ -114,35 +124,84 @@ written_log laws b l k end rs (r ∷ added) is w =
 
 -- ---- what a crash leaves
 
-module _ (one_list : OneListOfRecords) (h : DeviceHistory) (mid : Option DeviceHistory) (rs added : List Record) (keeps : KeepsRecords (Some h) mid) (held : HoldsRecords (content h) rs) where
+-- the operations that a device got are known by what it tells
+ops_of : Option DeviceHistory → List DevOp
+ops_of None = []
+ops_of (Some g) = g.ops
+
+same_ops : (h : DeviceHistory) (new : Option DeviceHistory) (xs ys : List DevOp) → AddsAll (Some h) new xs → AddsAll (Some h) new ys → xs ≡ ys
+unfolding ops_of
+same_ops h new xs ys first second = append_cancel_left h.ops xs ys (ap ops_of (sym first ∙ second))
+
+-- an append made, or a front of it
+abbrev pub AddsFrontOf : Option DeviceHistory → Option DeviceHistory → ℕ → List Record → Type 0
+AddsFrontOf old new end added = (made left : List DevOp) × (append_ops end (spelled added) ≡ made ++ left) × AddsAll old new made
+
+-- An append to a log of format 2, or a front of it, leaves none of format 1.
+append_recent : AppendLaws → (g : DeviceHistory) (new : Option DeviceHistory) (end : ℕ) (rs added : List Record) (ops : List DevOp) → MayAppendGroup end added → RecordLog g end rs → HasFormat (Some g) 2
+    → AddsFrontOf (Some g) new end added → AddsAll (Some g) new ops → EachMoment (disk g) ops (λ image. ¬ IsOld image)
+append_recent laws g new end rs added ops may log format front adds =
+    let marked : EachMoment (disk g) (append_ops end (spelled added)) (λ image. marked_format image ≡ marked_format (content g)) = laws.mark g end (spelled rs) (spelled added) may.may log.log in
+    let of_front : EachMoment (disk g) front.0 (λ image. marked_format image ≡ marked_format (content g)) =
+    moments_front (disk g) front.0 front.1 (λ image. marked_format image ≡ marked_format (content g)) (subst (λ (l : List DevOp). EachMoment (disk g) l (λ image. marked_format image ≡ marked_format (content g))) front.2 marked) in
+    subst (λ (l : List DevOp). EachMoment (disk g) l (λ image. ¬ IsOld image)) (same_ops g new front.0 ops front.3 adds)
+    (moments_weaker (λ image. marked_format image ≡ marked_format (content g)) (λ image. ¬ IsOld image) (λ image same old. let one : 1 ≡ 2 = old.1.1 ∙ laws.second image (same ∙ sym format.0) in absurd (omega (arith, one))) (disk g) front.0 of_front)
+
+-- what holds each by itself at each moment holds together
+moments_both : (P Q : List ℕ → Type 0) (d : Disk) (ops : List DevOp) → EachMoment d ops P → EachMoment d ops Q → EachMoment d ops (λ image. P image × Q image)
+moments_both P Q d [] p q = λ image left. (p image left, q image left)
+moments_both P Q d (op ∷ ops) p q = ((λ image left. (p.0 image left, q.0 image left)), moments_both P Q (op_done op d) ops p.1 q.1)
+
+module _ (laws : AppendLaws) (one_list : OneListOfRecords) (h : DeviceHistory) (mid : Option DeviceHistory) (rs added : List Record) (keeps : KeepsRecords (Some h) mid) (held : HoldsRecords (content h) rs) where
   abbrev between : DeviceHistory
   between = record { first = h.first; ops = h.ops ++ keeps.0 }
 
   abbrev Either : List Record → List ℕ → Type 0
   Either xs image = HoldsRecords image xs ⊎ HoldsRecords image (xs ++ added)
 
-  all_moments : (ops : List DevOp) → disk h ≡ settled (content h) → EachMoment (disk between) ops (Either rs) → EachMoment (disk h) (keeps.0 ++ ops) (Either rs)
-  all_moments ops quiet later =
-      let first = moments_weaker (λ image. HoldsRecords image rs) (Either rs) (λ image there. inl there) (disk h) keeps.0 (keeps.2 quiet rs held) in
-      moments_join (disk h) keeps.0 ops (Either rs) first (subst (λ (d : Disk). EachMoment d ops (Either rs)) (disk_join h.ops keeps.0 (settled h.first)) later)
+  abbrev Kept : List Record → List ℕ → Type 0
+  Kept xs image = IsKeptOrAdded (content h) xs added image
 
-  pub keeps_or_adds : (new : Option DeviceHistory) (end : ℕ) → IfSome mid (λ g. RecordLog g end (rs ++ all_records [])) → CrashesRecords mid new end added → KeepsOrAdds (Some h) new added
-  keeps_or_adds new end log crashes =
+  all_moments : (ops : List DevOp) → disk h ≡ settled (content h) → EachMoment (disk between) ops (Kept rs) → EachMoment (disk h) (keeps.0 ++ ops) (Kept rs)
+  all_moments ops quiet later =
+      let first = moments_weaker (IsKeptImage (content h) rs) (Kept rs) (λ image there. (inl there.0, there.1)) (disk h) keeps.0 (keeps.2 quiet rs held) in
+      moments_join (disk h) keeps.0 ops (Kept rs) first (subst (λ (d : Disk). EachMoment d ops (Kept rs)) (disk_join h.ops keeps.0 (settled h.first)) later)
+
+  pub keeps_or_adds : (new : Option DeviceHistory) (end : ℕ) → IfSome mid (λ g. RecordLog g end (rs ++ all_records [])) → HasFormat mid 2 → MayAppendGroup end added → AddsFrontOf mid new end added
+      → CrashesRecords mid new end added → KeepsOrAdds (Some h) new added
+  keeps_or_adds new end log format may front crashes =
       let there : RecordLog between end (rs ++ all_records []) = subst (λ (m : Option DeviceHistory). IfSome m (λ g. RecordLog g end (rs ++ all_records []))) keeps.1 log in
-      let crash = subst (λ (m : Option DeviceHistory). CrashesRecords m new end added) keeps.1 crashes in (
+      let here : RecordLog between end rs = subst (λ (x : List Record). RecordLog between end x) (append-nil rs) there in
+      let crash = subst (λ (m : Option DeviceHistory). CrashesRecords m new end added) keeps.1 crashes in
+      let second : HasFormat (Some between) 2 = subst (λ (m : Option DeviceHistory). HasFormat m 2) keeps.1 format in
+      let of_append : AddsFrontOf (Some between) new end added = subst (λ (m : Option DeviceHistory). AddsFrontOf m new end added) keeps.1 front in
+      let recent = append_recent laws between new end rs added crash.0 may here second of_append crash.1 in
+      let later : EachMoment (disk between) crash.0 (Kept rs) =
+      moments_weaker (λ image. Either rs image × (¬ IsOld image)) (Kept rs) (λ image is. (is.0, (λ was. is.1))) (disk between) crash.0
+      (moments_both (Either rs) (λ image. ¬ IsOld image) (disk between) crash.0 (crash.2 rs here) recent) in (
         keeps.0 ++ crash.0,
         crash.1 ∙ ap (λ (l : List DevOp). Some (record { first = h.first; ops = l })) (append_assoc h.ops keeps.0 crash.0),
         (λ quiet xs kept.
-            subst (λ (l : List Record). EachMoment (disk h) (keeps.0 ++ crash.0) (Either l)) (one_list (content h) rs xs held kept)
-            (all_moments crash.0 quiet (crash.2 rs (subst (λ (x : List Record). RecordLog between end x) (append-nil rs) there)))),
+            subst (λ (l : List Record). EachMoment (disk h) (keeps.0 ++ crash.0) (Kept l)) (one_list (content h) rs xs held kept)
+            (all_moments crash.0 quiet later)),
       )
 
 safely : LogLaws → (told mid new : Option DeviceHistory) (end : ℕ) (rs added : List Record) → IfSome told (λ h. HoldsRecords (content h) rs) → KeepsRecords told mid
-    → IfSome mid (λ g. RecordLog g end (rs ++ all_records [])) → CrashesRecords mid new end added → KeepsOrAdds told new added
-safely laws None mid new end rs added held keeps log crashes = tt
-safely laws (Some h) mid new end rs added held keeps log crashes = keeps_or_adds laws.one_list h mid rs added keeps held new end log crashes
+    → IfSome mid (λ g. RecordLog g end (rs ++ all_records [])) → HasFormat mid 2 → MayAppendGroup end added → AddsFrontOf mid new end added → CrashesRecords mid new end added → KeepsOrAdds told new added
+safely laws None mid new end rs added held keeps log format may front crashes = tt
+safely laws (Some h) mid new end rs added held keeps log format may front crashes = keeps_or_adds laws.append laws.one_list h mid rs added keeps held new end log format may front crashes
 
 -- opened, and then written to or not
 pub written_safely : LogLaws → (b : Device) (l : LogState) (end : ℕ) (rs added : List Record) (new : Option DeviceHistory) → IsRunLog b l end rs [] → KeepsRecords b.told l.told
-    → CrashesRecords l.told new l.end added → KeepsOrAdds b.told new added
-written_safely laws b l end rs added new is keeps crashes = safely laws b.told l.told new l.end rs added is.held keeps is.holds crashes
+    → HasFormat l.told 2 → MayAppendGroup l.end added → AddsFrontOf l.told new l.end added → CrashesRecords l.told new l.end added → KeepsOrAdds b.told new added
+written_safely laws b l end rs added new is keeps format may front crashes = safely laws b.told l.told new l.end rs added is.held keeps is.holds format may front crashes
+
+-- what was written, or begun, is a front of the append
+pub written_front : (l k : LogState) (added : List Record) → IsWritten l k added → AddsFrontOf l.told k.told l.end added
+written_front l k added w = (append_ops l.end (spelled added), [], sym (append-nil (append_ops l.end (spelled added))), w.adds)
+
+pub not_written_front : (l k : LogState) (added : List Record) (answer : LogsNo) → IsNotWritten l k added answer → AddsFrontOf l.told k.told l.end added
+not_written_front l k added answer w = elim (w.why) [
+  | inl memory ↦ ([], append_ops l.end (spelled added), refl, adds_nothing l.told k.told memory.1.told)
+  | inr device ↦ (device.3.0, device.3.1.left, device.3.1.whole, device.3.2)
+]

@@ -10,12 +10,12 @@ use Rattle.snap_outside.specs.Causes.{Rose}
 use Rattle.snap_outside.specs.Disk.{AddsUpToFault}
 use Rattle.gate_log.specs.declared.limits.TheConstants.{FARTHEST_END}
 use Rattle.gate_log.specs.Appends.{append_ops}
-use Rattle.gate_log.specs.Device.{ClearsSafely}
+use Rattle.gate_log.specs.Device.{ClearsSafely, HasFormat}
 use Rattle.gate_log.specs.State.{LogState, AreAllOpen, IsUntouched, log_at}
 use Rattle.txn_records.specs.declared.records.Record.{Record}
 use Rattle.txn_records.specs.declared.records.Record.TheVariants.{Genesis}
 use Rattle.txn_records.specs.Records.{IsRecord, IsState}
-use Rattle.record_log.specs.Growth.{GrewBy}
+use Rattle.record_log.specs.Growth.{GrewBy, MayAppendGroup}
 use Rattle.record_log.specs.Records.{spelled, CrashesRecords, KeepsRecords}
 use Rattle.snap_recover.specs.declared.openings.Opening.{Opening}
 use Rattle.snap_recover.specs.Logs.{all_of, is_genesis, geneses}
@@ -39,7 +39,7 @@ use Rattle.run_opening.specs.Starts.{first_record, IsStart, IsNoStart}
 use Rattle.run_opening.specs.Opens.{AreHeldEmpty, AreSafe, BeginsSafely, FailsClear, FailsFirst, HasRoomToBegin, IsNoRun, IsRunLog, KeepsOrAdds, KeepsOrEmpties, as_groups, first_groups, records_at, with_first}
 use Rattle.run_opening.specs.Writes.{AreNotPrepared, ArePrepared, IsWritten, IsNotWritten, IsSideCleared, IsSideCutOff, HasOpenedRun, HasOpenedNoRun, logs_in_use}
 use Rattle.run_opening.proofs.Clearing.{ClearLaws, asked_or_not, asked_within, cleared_safely, emptied, emptying_cut_off, none_emptied}
-use Rattle.run_opening.proofs.RunLogs.{LogLaws, used_log, written_log, written_safely}
+use Rattle.run_opening.proofs.RunLogs.{AddsFrontOf, LogLaws, not_written_front, used_log, written_front, written_log, written_safely}
 use Rattle.run_opening.proofs.Starting.{starts_with_states, added_are}
 
 -- ---- the opening
@@ -411,6 +411,9 @@ module _ (laws : Laws) (states : List State) (before : List Device) (logs : List
   pub first_second : (log_at logs 0).format ≡ 2
   first_second = first_log.second
 
+  first_format : HasFormat (log_at logs 0).told 2
+  first_format = subst (λ (n : ℕ). HasFormat (log_at logs 0).told n) first_second (lie.in_use 0 (omega (arith, some))).ready.formatted
+
   pub first_records : AllByRecursion IsState states → 1 ≤ length states → length states ≤ 256 → many_logs ≤ 4 → AllByRecursion IsRecord added × (length added ≤ 1)
   first_records are some_states few few_logs = added_are records added states o some few_logs some_states few are fresh_start
 
@@ -424,12 +427,13 @@ module _ (laws : Laws) (states : List State) (before : List Device) (logs : List
     on_other : (R : Device → Type 0) (d : ℕ) → d ≢ 0 → R (as_device (log_at logs d)) → R (device_at (map as_device new) d)
     on_other R d not there = kept_on laws states before logs 0 0 records some lie R new d (others d not) there
 
-    first_safe : CrashesRecords (log_at logs 0).told (log_at new 0).told (log_at logs 0).end added → BeginsSafely many_logs states before (map as_device new)
-    first_safe crashes = record {
+    first_safe : MayAppendGroup (log_at logs 0).end added → AddsFrontOf (log_at logs 0).told (log_at new 0).told (log_at logs 0).end added → CrashesRecords (log_at logs 0).told (log_at new 0).told (log_at logs 0).end added
+        → BeginsSafely many_logs states before (map as_device new)
+    first_safe may front crashes = record {
       empty = held_empty;
       first = on_device (λ (a : Device). KeepsOrAdds (device_at before 0).told a.told (first_record many_logs states ∷ [])) new 0
           (subst (λ (rs : List Record). KeepsOrAdds (device_at before 0).told (log_at new 0).told rs) group
-          (written_safely laws.logs (device_at before 0) (log_at logs 0) (log_at logs 0).end (records_at records 0) added (log_at new 0).told first_log (handled_on 0 (omega arith)).safe.records crashes));
+          (written_safely laws.logs (device_at before 0) (log_at logs 0) (log_at logs 0).end (records_at records 0) added (log_at new 0).told first_log (handled_on 0 (omega arith)).safe.records first_format may front crashes));
       others = λ d apart lt. on_other (λ (a : Device). KeepsRecords (device_at before d).told a.told) d (λ e. omega (arith, apart, e)) (handled_on d lt).safe.records;
     }
 
@@ -490,7 +494,7 @@ module _ (laws : Laws) (states : List State) (before : List Device) (logs : List
             actors = states_are.0;
             kept = states_are.1;
             ends = first_ends;
-            safe = inr (inr (first_safe w.crashes));
+            safe = inr (inr (first_safe w.may (written_front (log_at logs 0) (log_at new 0) added w) w.crashes));
             later = all_later w.later;
           }
 
@@ -535,7 +539,7 @@ module _ (laws : Laws) (states : List State) (before : List Device) (logs : List
           | inl memory ↦ no_memory memory.0 memory.1
           | inr device ↦ inr (inr (device.0, fails_first device.2 device.3))
         ];
-        safe = inr (inr (first_safe w.crashes));
+        safe = inr (inr (first_safe w.may (not_written_front (log_at logs 0) (log_at new 0) added answer w) w.crashes));
         later = all_later w.later;
       }
 

@@ -8,7 +8,7 @@ use Rattle.snap_outside.specs.declared.devices.DevOp.{DevOp}
 use Rattle.snap_outside.specs.Disk.{DeviceHistory, disk, content, settled, EachMoment, AddsAll}
 use Rattle.gate_log.specs.declared.limits.TheConstants.{FARTHEST_END}
 use Rattle.gate_log.specs.declared.logs.LogItem.{LogItem}
-use Rattle.gate_log.specs.Bytes.{IsLog}
+use Rattle.gate_log.specs.Bytes.{IsLog, IsOld}
 use Rattle.gate_log.specs.Opened.{Opened}
 use Rattle.gate_log.specs.State.{LogState, log_at}
 use Rattle.txn_records.specs.declared.records.Record.{Record}
@@ -144,12 +144,17 @@ IsNoRun count states before after answer =
 
 -- ---- crashes
 
--- Whatever a crash leaves at any moment of the call holds the records that the device held, or these with all that are added.
+-- the image holds these records, or these with all that are added; and is no log of format 1 with an item, where the bytes were none
+abbrev pub IsKeptOrAdded : List ℕ → List Record → List Record → List ℕ → Type 0
+IsKeptOrAdded bytes rs added image = (HoldsRecords image rs ⊎ HoldsRecords image (rs ++ added)) × (¬ IsOld bytes → ¬ IsOld image)
+
+-- Whatever a crash leaves at any moment of the call holds the records that the device held, or these with all that are added; and it is no
+-- log of format 1 with an item, where the device held none.
 abbrev pub KeepsOrAdds : Option DeviceHistory → Option DeviceHistory → List Record → Type 0
 KeepsOrAdds old new added =
     IfSome old (λ h. (ops : List DevOp) × AddsAll old new ops
     × (disk h ≡ settled (content h) → (rs : List Record) → HoldsRecords (content h) rs
-    → EachMoment (disk h) ops (λ image. HoldsRecords image rs ⊎ HoldsRecords image (rs ++ added))))
+    → EachMoment (disk h) ops (IsKeptOrAdded (content h) rs added)))
 
 -- Whatever a crash leaves at any moment of the call holds the records that the device held, or none.
 abbrev pub KeepsOrEmpties : Option DeviceHistory → Option DeviceHistory → Type 0

@@ -12,7 +12,9 @@ mod preparing;
 mod starts;
 
 pub use comparisons::{GREATEST_TO_BEGIN, ROOM_TO_BEGIN};
-pub use gate_log::{FARTHEST_END, Log, clear_is_safe, logs_are_lists, one_list, opening_is_safe};
+pub use gate_log::{
+    FARTHEST_END, Log, beginning_is_safe, clear_is_safe, logs_are_lists, one_list, opening_is_safe,
+};
 pub use laws::begins_again;
 pub use limits::LARGEST_START;
 pub use log_opening::{LogsNo, close};

@@ -14,8 +14,8 @@ use crate::limits::LARGEST_START;
 use crate::preparing::prepare;
 use crate::starts::{Start, start_from};
 use gate_log::{
-    FARTHEST_END, Log, beginning_is_safe, damage_is_no_log, logs_are_lists, one_difference,
-    one_list, one_reading, opening_is_safe,
+    FARTHEST_END, Log, append_is_whole, beginning_is_safe, damage_is_no_log, logs_are_lists,
+    one_difference, one_list, one_reading, opening_is_safe, upgrade_is_safe,
 };
 use log_compact::{
     begun_lists_fold, folds_are_begun, folds_are_of_records, one_fold, one_set,
@@ -159,6 +159,8 @@ fn begin_on<D: LogDev>(
     logs_are_lists();
     opening_is_safe();
     beginning_is_safe();
+    append_is_whole();
+    upgrade_is_safe();
     opened_holds();
     history_grows();
     one_list_of_records();

@@ -24,6 +24,7 @@ start_from-requires-clause-logs g c =
       grows = c.history_grows.ensures.opening;
       group = c.history_grows.ensures.group;
       fault = c.history_grows.ensures.fault;
+      append = record { mark = c.append_is_whole.ensures.mark; second = c.upgrade_is_safe.ensures.second };
     } in
     let clear_laws : ClearLaws = record {
       one_reading = c.one_reading.ensures;
@@ -56,6 +57,7 @@ prepare-requires-clause-open g c =
       grows = c.history_grows.ensures.opening;
       group = c.history_grows.ensures.group;
       fault = c.history_grows.ensures.fault;
+      append = record { mark = c.append_is_whole.ensures.mark; second = c.upgrade_is_safe.ensures.second };
     } in
     let clear_laws : ClearLaws = record {
       one_reading = c.one_reading.ensures;
@@ -87,6 +89,7 @@ prepare-requires-clause-low g c =
       grows = c.history_grows.ensures.opening;
       group = c.history_grows.ensures.group;
       fault = c.history_grows.ensures.fault;
+      append = record { mark = c.append_is_whole.ensures.mark; second = c.upgrade_is_safe.ensures.second };
     } in
     let clear_laws : ClearLaws = record {
       one_reading = c.one_reading.ensures;
@@ -118,6 +121,7 @@ prepare-requires-clause-records g c =
       grows = c.history_grows.ensures.opening;
       group = c.history_grows.ensures.group;
       fault = c.history_grows.ensures.fault;
+      append = record { mark = c.append_is_whole.ensures.mark; second = c.upgrade_is_safe.ensures.second };
     } in
     let clear_laws : ClearLaws = record {
       one_reading = c.one_reading.ensures;
@@ -151,6 +155,7 @@ prepare-requires-clause-one g c =
       grows = c.history_grows.ensures.opening;
       group = c.history_grows.ensures.group;
       fault = c.history_grows.ensures.fault;
+      append = record { mark = c.append_is_whole.ensures.mark; second = c.upgrade_is_safe.ensures.second };
     } in
     let clear_laws : ClearLaws = record {
       one_reading = c.one_reading.ensures;
@@ -184,6 +189,7 @@ prepare-requires-clause-format g c =
       grows = c.history_grows.ensures.opening;
       group = c.history_grows.ensures.group;
       fault = c.history_grows.ensures.fault;
+      append = record { mark = c.append_is_whole.ensures.mark; second = c.upgrade_is_safe.ensures.second };
     } in
     let clear_laws : ClearLaws = record {
       one_reading = c.one_reading.ensures;
@@ -224,6 +230,7 @@ returns-in-Err-start_from-clause-begun g c =
       grows = c.history_grows.ensures.opening;
       group = c.history_grows.ensures.group;
       fault = c.history_grows.ensures.fault;
+      append = record { mark = c.append_is_whole.ensures.mark; second = c.upgrade_is_safe.ensures.second };
     } in
     let clear_laws : ClearLaws = record {
       one_reading = c.one_reading.ensures;
@@ -257,6 +264,7 @@ returns-in-Ok-prepare-clause-begun g c =
       grows = c.history_grows.ensures.opening;
       group = c.history_grows.ensures.group;
       fault = c.history_grows.ensures.fault;
+      append = record { mark = c.append_is_whole.ensures.mark; second = c.upgrade_is_safe.ensures.second };
     } in
     let clear_laws : ClearLaws = record {
       one_reading = c.one_reading.ensures;
@@ -293,6 +301,7 @@ returns-in-Ok-prepare-clause-within g c =
       grows = c.history_grows.ensures.opening;
       group = c.history_grows.ensures.group;
       fault = c.history_grows.ensures.fault;
+      append = record { mark = c.append_is_whole.ensures.mark; second = c.upgrade_is_safe.ensures.second };
     } in
     let clear_laws : ClearLaws = record {
       one_reading = c.one_reading.ensures;
@@ -324,6 +333,7 @@ returns-in-Err-prepare-clause-begun g c =
       grows = c.history_grows.ensures.opening;
       group = c.history_grows.ensures.group;
       fault = c.history_grows.ensures.fault;
+      append = record { mark = c.append_is_whole.ensures.mark; second = c.upgrade_is_safe.ensures.second };
     } in
     let clear_laws : ClearLaws = record {
       one_reading = c.one_reading.ensures;
