@@ -1,0 +1,3 @@
+pub mod Failures
+pub mod Meant
+pub mod Places
