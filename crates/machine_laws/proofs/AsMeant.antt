@@ -1,7 +1,7 @@
 -- The serial run of the machine's words is that of the language, over the text's transactions.
 use Rattle.std.specs.Prelude.{◌≡◌, refl, ℕ, ◌<◌, Bool, true, false, if◌then◌else◌, Some, List, [], ◌∷◌, ◌++◌, length, map, filter}
 use Rattle.std.specs.List.{AllByRecursion}
-use Rattle.std.proofs.Common.{subst, ◌∙◌, ap}
+use Rattle.std.proofs.Common.{subst, ◌∙◌, ap, sym}
 use Rattle.snap_base.specs.declared.transactions.State.{State}
 use Rattle.snap_base.specs.declared.transactions.Tx.{Tx}
 use Rattle.snap_base.proofs.Lists.{each_at}
@@ -25,6 +25,7 @@ use Rattle.protocol_theorems.proofs.order.ByPlace.{all_sorted}
 use Rattle.protocol_records.specs.AsTold.{told_committed, ToldStands}
 use Rattle.protocol_records.specs.Crash.{CrashHolds, members}
 use Rattle.machine_laws.specs.MethodCode.{finish, method_code}
+use Rattle.machine_laws.proofs.AsMany.{serial_as_many}
 use Rattle.machine_laws.specs.Programs.{IsTextOf, with_code, finish_of}
 use Rattle.machine_laws.specs.Meant.{meant_run, MeansWhatItDid, CommittedAsMeant, RecoveredAsMeant}
 
@@ -95,4 +96,5 @@ recovered_meant p w es s h logs meant is there crash =
     record {
       results = subst (λ (x : Serial). map Some x.results ≡ map (λ d. d.result) (by_place (members w.logs logs h))) same crash.stands.serial;
       states = λ a below. crash.states a below ∙ ap (λ (x : Serial). state_in x.world a) same;
+      as_many = ap (λ (x : Serial). length x.world) (sym same) ∙ serial_as_many p (length w.opening.states) w.opening.states (txs_of (with_code p w) (by_place (members w.logs logs h)));
     }

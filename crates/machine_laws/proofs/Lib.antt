@@ -1,3 +1,4 @@
+pub mod AsMany
 pub mod AsMeant
 pub mod Instances
 pub mod RestsMeant

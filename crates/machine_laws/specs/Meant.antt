@@ -61,6 +61,8 @@ pub record RecoveredAsMeant (p : List CheckedMethod) (w : Fixed Rest) (finish : 
   pub results : IsAsMeant p w (members w.text.logs logs h)
   -- the recovered states are those that this leaves
   pub states : (a : ℕ) → a < length w.text.opening.states → recovered_state w.text.logs logs a (state_in w.text.opening.states a) ≡ state_in (meant_run p w (members w.text.logs logs h)).world a
+  -- and it leaves as many as there were
+  pub as_many : length (meant_run p w (members w.text.logs logs h)).world ≡ length w.text.opening.states
 
 -- Behind those before it in the order of places, transaction n alone means this result, and it is at this place.
 pub record HasMeantResult (p : List CheckedMethod) (w : Fixed Rest) (n : ℕ) (at : Place) (r : TxResult) (ds : List Done) : Type 0 where

@@ -38,6 +38,7 @@ pub record RecoversAsMeant (p : List CheckedMethod) (w : Fixed Rest) (finish : R
   pub results : IsAsMeant p w (members w.text.logs logs h)
   pub values : map (λ (x : PlacedResult). x.2) (flat_map answers_of (all_in w.text.logs logs s)) ≡ map Some (meant_run p w (members w.text.logs logs h)).results
   pub states : (a : ℕ) → a < length w.text.opening.states → state_in (fold_after w f s logs).opening.states a ≡ state_in (meant_run p w (members w.text.logs logs h)).world a
+  pub as_many : length (meant_run p w (members w.text.logs logs h)).world ≡ length w.text.opening.states
 
 -- ---- several runs
 

@@ -5,6 +5,9 @@ use Rattle.std.proofs.lemmas.List.{append-nil}
 use Rattle.std.proofs.lemmas.List.Concat.{flat_map-cons}
 use Rattle.run_effects.specs.Driven.{tried_on}
 use Rattle.snap_base.specs.declared.transactions.State.{State}
+use Rattle.record_log.specs.gate_log.declared.logs.LogItem.{LogItem}
+use Rattle.record_log.specs.gate_log.Bytes.{IsOld}
+use Rattle.record_log.specs.gate_log.LogLaws.{BeginningKeepsRecent}
 use Rattle.record_log.specs.gate_log.Opened.{Opened, beginning_ops}
 use Rattle.run_opening.specs.log_opening.Cuts.{HoldFour, IsCutCall}
 use Rattle.run_opening.specs.log_opening.Devices.{device_at}
@@ -12,8 +15,8 @@ use Rattle.machine_recovery.specs.compact_laws.log_compact.declared.folds.Folded
 use Rattle.machine_recovery.specs.compact_laws.log_compact.Compacting.{IsOnSide}
 use Rattle.machine_recovery.specs.compact_laws.log_compact.Finding.{IsLeftByRuns, IsUsed}
 use Rattle.machine_recovery.specs.compact_laws.log_compact.Sets.{IsFolded, IsSet, logs_from}
-use Rattle.record_log.specs.Growth.{GrewBy, HoldsWhole, IsGrowth, Leaves, LeavesGroups, MayAppendGroups, all_records, groups_ops}
-use Rattle.record_log.specs.GrowthLaws.{GrowthKeeps}
+use Rattle.record_log.specs.Growth.{GrewBy, HoldsWhole, IsGrowth, IsNextBegun, IsNextCutShort, Leaves, LeavesGroups, MayAppendGroups, all_records, end_behind_groups, groups_ops}
+use Rattle.record_log.specs.GrowthLaws.{GrowthKeeps, MomentIsRecent}
 use Rattle.record_log.specs.Records.{HoldsRecords, spelled}
 use Rattle.record_log.specs.gate_log.Appends.{end_behind}
 use Rattle.run_opening.specs.Begins.{AreEmpty, Begins}
@@ -21,7 +24,8 @@ use Rattle.run_opening.specs.Opens.{first_groups, records_at, with_first}
 use Rattle.run_opening.specs.Starts.{IsStart, first_record}
 use Rattle.run_effects.specs.Groups.{group_behind, groups_of}
 use Rattle.record_log.specs.snap_outside.declared.devices.DevOp.{DevOp}
-use Rattle.record_log.specs.snap_outside.Disk.{DeviceHistory, content}
+use Rattle.record_log.specs.snap_outside.Disk.{DeviceHistory, EachMoment, IsImage, content, disk, disk_after, settled}
+use Rattle.record_log.specs.snap_outside.Moments.{moment_between}
 use Rattle.snap_recover.specs.declared.openings.Opening.{Opening}
 use Rattle.snap_work.specs.Kept.{KeepsLimits}
 use Rattle.record_log.specs.txn_records.declared.records.Record.{Record}
@@ -88,11 +92,40 @@ log_left bytes end l rs added made image (inr x) = groups_left end l rs added x.
 abbrev image_of : (r : TheRun) → (ℕ → List ℕ) → ℕ → List ℕ
 image_of r images l = images (r.devices.head + l)
 
-each_left : GrowthKeeps → (r : TheRun) (images : ℕ → List ℕ) → CrashBefore r images → r.devices.head + r.work.logs ≤ 4 → (l : ℕ) → l < r.work.logs
-    → Left l (records_at r.devices.records l) r.devices.added (image_of r images l)
-each_left keeps r images crash within l lt =
-    log_left (content h) here.end l rs r.devices.added (crash.made d) (images d)
-    (keeps h here.opened.0 here.end here.opened.1 rs first None (beginning_ops (content h) ++ groups_ops here.end first) opened cut.durable held (first_growth (content h) here.end first may) (crash.made d) made.0 made.1 (images d) cut.left)
+next_begun : (end : ℕ) (later : List (List Record)) (begun : List DevOp) → IsNextCutShort end later begun → IsNextBegun end later begun
+next_begun end [] begun next = next
+next_begun end (group ∷ later) begun next = (next.left, next.whole)
+
+-- at each of these moments the image is no log of format 1 with an item, where the device held none
+recent_left : MomentIsRecent → BeginningKeepsRecent → (h : DeviceHistory) (opened : Option DeviceHistory) (end : ℕ) (found : List LogItem) (rs : List Record) (groups : List (List Record)) (made : List DevOp) (image : List ℕ)
+    → Opened (Some h) opened end found → disk h ≡ settled (content h) → HoldsRecords (content h) rs → MayAppendGroups end groups → ¬ IsOld (content h) → IsImage (disk_after made (disk h)) image
+    → Leaves (content h) end rs groups made image → ¬ IsOld image
+recent_left moment begins h opened end found rs groups made image opens quiet held may recent left (inl cut) =
+    moment_between (disk h) made cut.0.left (λ (bytes : List ℕ). ¬ IsOld bytes)
+    (subst (λ (ops : List DevOp). EachMoment (disk h) ops (λ (bytes : List ℕ). ¬ IsOld bytes)) cut.0.whole (begins h (spelled rs) quiet held.log recent)) image left
+recent_left moment begins h opened end found rs groups made image opens quiet held may recent left (inr x) =
+    let y = x.2 in
+    let parts : made ≡ beginning_ops (content h) ++ (groups_ops end y.whole ++ y.begun) = x.1 ∙ ap (λ (ops : List DevOp). beginning_ops (content h) ++ ops) y.so_far in
+    moment h opened end found rs y.whole y.later y.begun opens held (subst (MayAppendGroups end) y.splits may) (next_begun (end_behind_groups end y.whole) y.later y.begun y.next) image
+    (subst (λ (ops : List DevOp). IsImage (disk_after ops (disk h)) image) parts left)
+
+-- what the laws say of one log while the run begins
+pub record BeginLaws : Type 0 where
+  pub keeps : GrowthKeeps
+  pub moment : MomentIsRecent
+  pub begins : BeginningKeepsRecent
+
+-- what log l is left with
+record EachLeft (l : ℕ) (rs added : List Record) (image : List ℕ) : Type 0 where
+  left : Left l rs added image
+  recent : ¬ IsOld image
+
+each_left : BeginLaws → (r : TheRun) (images : ℕ → List ℕ) → CrashBefore r images → r.devices.head + r.work.logs ≤ 4 → (l : ℕ) → l < r.work.logs
+    → EachLeft l (records_at r.devices.records l) r.devices.added (image_of r images l)
+each_left laws r images crash within l lt = record {
+  left = log_left (content h) here.end l rs r.devices.added (crash.made d) (images d) leaves;
+  recent = recent_left laws.moment laws.begins h here.opened.0 here.end here.opened.1 rs first (crash.made d) (images d) opened cut.durable held may recent cut.left leaves;
+}
   where
     d : ℕ
     d = r.devices.head + l
@@ -134,6 +167,14 @@ each_left keeps r images crash within l lt =
     may =
         grew_first h (device_at r.after d).told here.end first groups tried
         (subst (λ t. GrewBy t (device_at r.after d).told here.end (first ++ groups) tried) cut.told here.grew)
+
+    recent : ¬ IsOld (content h)
+    recent = subst (λ t. IfSome t (λ h. ¬ IsOld (content h))) cut.told (r.devices.recent l lt)
+
+    leaves : Leaves (content h) here.end rs first (crash.made d) (images d)
+    leaves =
+        laws.keeps h here.opened.0 here.end here.opened.1 rs first None (beginning_ops (content h) ++ groups_ops here.end first) opened cut.durable held (first_growth (content h) here.end first may) (crash.made d) made.0 made.1 (images d)
+        cut.left
 
 -- ---- all logs
 
@@ -236,10 +277,11 @@ kept_four laws r held images kept limits asides which each = record {
         left_set (placed kept asides.aside r.devices.head r.work.logs) r.devices.head r.work.logs r.devices.generation
         (subst (λ (k : List (List Record)). IsSet (placed k asides.aside r.devices.head r.work.logs) r.devices.head r.work.logs r.devices.generation) (sym new.1) (begun_now new.0))
 
-pub begins_again : FourLaws → GrowthKeeps → Unwritten → Written → (r : TheRun) (images : ℕ → List ℕ) → KeepsLimits r.work → CrashBefore r images → BeginsAgain r images
-begins_again laws keeps unwritten written r images limits crash = record {
+pub begins_again : FourLaws → BeginLaws → Unwritten → Written → (r : TheRun) (images : ℕ → List ℕ) → KeepsLimits r.work → CrashBefore r images → BeginsAgain r images
+begins_again laws of_log unwritten written r images limits crash = record {
   now = four.now;
   holds = four.holds;
+  recent = λ l lt. (each_left of_log r images crash within l lt).recent;
   kept = all.kept;
   lists = four.lists;
   which = which;
@@ -256,7 +298,7 @@ begins_again laws keeps unwritten written r images limits crash = record {
     tells d low = let cut = (crash.each d low).0 in (cut.history, cut.told, cut.holds)
 
     all : AllLeft r.work.logs r.devices.records r.work.states r.opening r.devices.fold (image_of r images)
-    all = all_left unwritten written r.work.logs r.devices.records r.work.states r.opening r.devices.fold r.devices.added (image_of r images) limits.logs.0 r.devices.as_many r.devices.start r.devices.folds (each_left keeps r images crash within)
+    all = all_left unwritten written r.work.logs r.devices.records r.work.states r.opening r.devices.fold r.devices.added (image_of r images) limits.logs.0 r.devices.as_many r.devices.start r.devices.folds (λ l lt. (each_left of_log r images crash within l lt).left)
 
     which : KeepsOrBegins r.work.logs r.work.states r.devices.records all.kept
     which = subst (λ n. KeepsOrBegins n r.work.states r.devices.records all.kept) r.devices.as_many all.which

@@ -1,45 +1,47 @@
 -- What calls between runs leave of the logs.
-use Rattle.std.specs.Prelude.{◌≡◌, ◌≢◌, refl, ℕ, zero, suc, ◌+◌, ◌<◌, ◌≤◌, ◌⊎◌, Option, Some, List, [], ◌∷◌, ◌++◌, length}
+use Rattle.std.specs.Prelude.{◌≡◌, ◌≢◌, refl, ℕ, zero, suc, ◌+◌, ◌<◌, ◌≤◌, ◌⊎◌, IfSome, Option, Some, List, [], ◌∷◌, ◌++◌, length}
 use Rattle.std.specs.List.{AllZip}
 use Rattle.std.proofs.Common.{inl, inr, arith, sym, ap, subst, ◌∙◌}
 use Rattle.std.proofs.lemmas.Bool.{cases_lt}
+use Rattle.log_compact.proofs.Moments.{side_of, side_used}
 use Rattle.machine_recovery.specs.compact_laws.log_compact.Compacting.{IsBefore, IsOnSide, other_side}
 use Rattle.machine_recovery.specs.compact_laws.log_compact.declared.folds.Folded.{Folded}
 use Rattle.machine_recovery.specs.compact_laws.log_compact.Finding.{HasNoSet, IsLeftByRuns, IsUsed}
 use Rattle.machine_recovery.specs.compact_laws.log_compact.Folds.{BegunListsFold, FoldsAreBegun}
 use Rattle.machine_recovery.specs.compact_laws.log_compact.Sets.{IsSet, OneFold, logs_from}
-use Rattle.run_opening.specs.log_opening.Cuts.{HoldFour, IsCutCall, IsFrontOfCall}
-use Rattle.run_opening.specs.log_opening.Devices.{Device, IsToBeCleared, device_at}
+use Rattle.run_opening.specs.log_opening.Cuts.{AreRecent, HoldFour, IsCutCall, IsFrontOfCall}
+use Rattle.run_opening.specs.log_opening.Devices.{Device, IsOld, IsToBeCleared, device_at}
 use Rattle.record_log.specs.RecordLogLaws.{OneListOfRecords}
-use Rattle.record_log.specs.Records.{HoldsRecords, KeepsRecords}
+use Rattle.record_log.specs.Records.{HoldsRecords, IsKeptImage, KeepsRecords}
 use Rattle.run_opening.specs.Begins.{AreEmpty, BeganWith}
-use Rattle.run_opening.specs.Opens.{AreSafe, BeginsSafely, ClearsSideSafely, KeepAll, KeepsOrAdds, KeepsOrEmpties, records_at, with_first}
+use Rattle.run_opening.specs.Opens.{AreSafe, BeginsSafely, ClearsSideSafely, IsKeptOrAdded, KeepAll, KeepsOrAdds, KeepsOrEmpties, records_at, with_first}
 use Rattle.run_opening.specs.Starts.{first_record}
 use Rattle.snap_base.specs.declared.transactions.State.{State}
 use Rattle.record_log.specs.snap_outside.declared.devices.DevOp.{DevOp}
-use Rattle.record_log.specs.snap_outside.Disk.{DeviceHistory}
+use Rattle.record_log.specs.snap_outside.Disk.{DeviceHistory, content}
 use Rattle.record_log.specs.txn_records.declared.records.Record.{Record}
 use Rattle.record_log.specs.txn_records.declared.records.Record.TheVariants.{Genesis}
 use Rattle.run_recovery.specs.Between.{AreBetween, AreKept, AreOfStates, Call, Compaction, HasCompaction, IsJustBegun, IsPartlyCleared, IsUnbegun, KeepFour, LeadTo, Unbegun, left_last, still}
 use Rattle.run_recovery.proofs.AsideLeft.{left_so}
-use Rattle.run_recovery.proofs.CompactionKept.{CompactionLaws, behind, compaction_use, folds_behind, set_behind, states_behind}
-use Rattle.run_recovery.proofs.FourDevices.{SetLaws, TellAll, all_empty, from_at, from_long, held_now, left_set, left_stays, lists_from, none_same, one_told, set_same, used_of, used_same}
+use Rattle.run_recovery.proofs.CompactionKept.{CompactionLaws, behind, compaction_use, folds_behind, recent_behind, set_behind, states_behind, told_recent}
+use Rattle.run_recovery.proofs.FourDevices.{SetLaws, TellAll, all_empty, from_at, from_long, held_now, left_set, left_stays, lists_from, none_same, one_told, set_same, used_of, used_same, within_four}
 use Rattle.run_recovery.proofs.FoundFour.{to_clear}
 use Rattle.run_recovery.proofs.Leading.{FoldsOn, begins_behind, begun_leads, fold_on, written_folds}
 use Rattle.run_recovery.proofs.LogsLeft.{first_long}
 
 -- ---- one device
 
-kept_one : (before after : Device) (rs : List Record) (made : List DevOp) (image : List ℕ) (cut : IsCutCall before rs made image) → IsFrontOfCall after cut.history made → KeepsRecords before.told after.told → HoldsRecords image rs
+kept_one : (before after : Device) (rs : List Record) (made : List DevOp) (image : List ℕ) (cut : IsCutCall before rs made image) → IsFrontOfCall after cut.history made → KeepsRecords before.told after.told
+    → IsKeptImage (content cut.history) rs image
 kept_one before after rs made image cut front keeps =
     let k = subst (λ (t : Option DeviceHistory). KeepsRecords t after.told) cut.told keeps in
-    left_so (λ i. HoldsRecords i rs) cut.history k.0 made front.0 after.told image k.1 front.1 (k.2 cut.durable rs cut.holds) cut.left
+    left_so (IsKeptImage (content cut.history) rs) cut.history k.0 made front.0 after.told image k.1 front.1 (k.2 cut.durable rs cut.holds) cut.left
 
 added_one : (before after : Device) (rs added : List Record) (made : List DevOp) (image : List ℕ) (cut : IsCutCall before rs made image) → IsFrontOfCall after cut.history made → KeepsOrAdds before.told after.told added
-    → HoldsRecords image rs ⊎ HoldsRecords image (rs ++ added)
+    → IsKeptOrAdded (content cut.history) rs added image
 added_one before after rs added made image cut front keeps =
     let k = subst (λ (t : Option DeviceHistory). KeepsOrAdds t after.told added) cut.told keeps in
-    left_so (λ i. HoldsRecords i rs ⊎ HoldsRecords i (rs ++ added)) cut.history k.0 made front.0 after.told image k.1 front.1 (k.2 cut.durable rs cut.holds) cut.left
+    left_so (IsKeptOrAdded (content cut.history) rs added) cut.history k.0 made front.0 after.told image k.1 front.1 (k.2 cut.durable rs cut.holds) cut.left
 
 emptied_one : (before after : Device) (rs : List Record) (made : List DevOp) (image : List ℕ) (cut : IsCutCall before rs made image) → IsFrontOfCall after cut.history made → KeepsOrEmpties before.told after.told
     → HoldsRecords image rs ⊎ HoldsRecords image []
@@ -56,11 +58,12 @@ told_at R (b ∷ bs) (m ∷ ms) (suc l) h all told = told_at R bs ms l h all.1 t
 
 -- ---- one call
 
--- what a call leaves of four devices that held these records, with these logs in use
-record IsLeft (logs : ℕ) (states : List State) (now : ℕ → List Record) (images : ℕ → List ℕ) : Type 0 where
+-- what a call leaves of four devices that held these records in these bytes, with these logs in use
+record IsLeft (logs : ℕ) (states : List State) (head : ℕ) (now : ℕ → List Record) (found images : ℕ → List ℕ) : Type 0 where
   kept : ℕ → List Record
   holds : HoldFour images kept
   which : KeepFour logs states now kept
+  recent : AreRecent found head logs → AreRecent images head logs
 
 -- what the laws say
 pub record CallLaws : Type 0 where
@@ -89,13 +92,32 @@ module _ (laws : CallLaws) (logs : ℕ) (states : List State) (head generation :
   as_now d low h = subst (HoldsRecords (left d)) (is_held d low) h
 
   kept_at : (d : ℕ) (low : d < 4) → KeepsRecords (device_at u.before d).told (device_at u.after d).told → HoldsRecords (left d) (now d)
-  kept_at d low keeps = as_now d low (kept_one (device_at u.before d) (device_at u.after d) (held d) (u.made d) (left d) (u.each d low).0 (u.each d low).1 keeps)
+  kept_at d low keeps = as_now d low (kept_one (device_at u.before d) (device_at u.after d) (held d) (u.made d) (left d) (u.each d low).0 (u.each d low).1 keeps).0
 
-  all_kept : KeepAll u.before u.after → IsLeft logs states now left
+  -- ---- formats
+
+  was_recent : (d : ℕ) (low : d < 4) → ¬ IsOld (found d) → ¬ IsOld (content (u.each d low).0.history)
+  was_recent d low recent = subst (λ (t : Option DeviceHistory). IfSome t (λ h. ¬ IsOld (content h))) (u.each d low).0.told (told_recent u.before found u.told d low recent)
+
+  recent_at : (d : ℕ) (low : d < 4) → KeepsRecords (device_at u.before d).told (device_at u.after d).told → ¬ IsOld (found d) → ¬ IsOld (left d)
+  recent_at d low keeps recent =
+      (kept_one (device_at u.before d) (device_at u.after d) (held d) (u.made d) (left d) (u.each d low).0 (u.each d low).1 keeps).1 (was_recent d low recent)
+
+  within : head + logs ≤ 4
+  within = within_four now head logs generation few used
+
+  all_recent : ((l : ℕ) → l < logs → ¬ IsOld (found (head + l)) → ¬ IsOld (left (head + l))) → AreRecent found head logs → AreRecent left head logs
+  all_recent each was l lt = each l lt (was l lt)
+
+  -- ---- each way
+
+  all_kept : KeepAll u.before u.after → IsLeft logs states head now found left
   all_kept all = record {
     kept = now;
     holds = λ d low. kept_at d low (told_at (λ (b a : Device). KeepsRecords b.told a.told) u.before u.after d (tells d low).0 all (tells d low).1);
     which = inl (λ d. refl);
+    recent = all_recent (λ l lt. let low : head + l < 4 = omega (arith, lt, within) in
+        recent_at (head + l) low (told_at (λ (b a : Device). KeepsRecords b.told a.told) u.before u.after (head + l) (tells (head + l) low).0 all (tells (head + l) low).1));
   }
 
   -- the logs in use are those by what the bytes hold
@@ -124,9 +146,19 @@ module _ (laws : CallLaws) (logs : ℕ) (states : List State) (head generation :
           (emptied_one (device_at u.before d) (device_at u.after d) (held d) (u.made d) (left d) (u.each d low).0 (u.each d low).1 (c.cleared d low asked))
       by (inr not_asked) = record { records = now d; holds = kept_at d low (c.kept d low not_asked); fits = inl refl }
 
-  all_cleared : ClearsSideSafely logs u.before u.after → IsLeft logs states now left
-  all_cleared c = record { kept = kept; holds = λ d low. holds_at d low (cases_lt d 4); which = by (cases_lt logs 3) }
+  all_cleared : ClearsSideSafely logs u.before u.after → IsLeft logs states head now found left
+  all_cleared c = record { kept = kept; holds = λ d low. holds_at d low (cases_lt d 4); which = by (cases_lt logs 3); recent = all_recent (λ l lt. still_recent l lt) }
     where
+      -- no log in use is to be cleared
+      not_asked : (l : ℕ) → l < logs → ¬ IsToBeCleared c.head logs c.generation (head + l)
+      not_asked l lt asked =
+          let its = used_of laws.sets held c.used tells in
+          let e = (same_use c.head c.generation its).0 in
+          side_of c.head logs (side_used held logs c.head logs c.generation its) some (head + l) (record { behind = omega (arith, e); before = omega (arith, e, lt) }) asked.side
+
+      still_recent : (l : ℕ) → l < logs → ¬ IsOld (found (head + l)) → ¬ IsOld (left (head + l))
+      still_recent l lt = let low : head + l < 4 = omega (arith, lt, within) in recent_at (head + l) low (c.kept (head + l) low (not_asked l lt))
+
       record_of : (d : ℕ) → (d < 4) ⊎ (4 ≤ d) → List Record
       record_of d (inl low) = (one_left c d low).records
       record_of d (inr high) = now d
@@ -189,15 +221,30 @@ module _ (laws : CallLaws) (logs : ℕ) (states : List State) (head generation :
       by (inl s) = let none : [] ≡ Genesis logs s.first ∷ s.is_head.rest = sym (none_held b 0 (omega (arith, some))) ∙ s.is_head.begins in absurd (cc none)
       by (inr n) = n.0
 
-  first_left : (b : BeginsSafely logs states u.before u.after) → HoldsRecords (left 0) (held 0) ⊎ HoldsRecords (left 0) (held 0 ++ first_record logs states ∷ []) → IsLeft logs states now left
-  first_left b (inl same) = record { kept = now; holds = each; which = inl (λ d. refl) }
+  zero_head : (b : BeginsSafely logs states u.before u.after) → head ≡ 0
+  zero_head b = by used
+    where
+      by : IsUsed now logs head logs generation → head ≡ 0
+      by (inl s) = absurd (no_set b head logs s.first s.is_head)
+      by (inr n) = n.1
+
+  first_recent : (b : BeginsSafely logs states u.before u.after) → (¬ IsOld (found 0) → ¬ IsOld (left 0)) → AreRecent found head logs → AreRecent left head logs
+  first_recent b first = all_recent (λ l lt. let e : l ≡ head + l = omega (arith, zero_head b) in subst (λ (d : ℕ). ¬ IsOld (found d) → ¬ IsOld (left d)) e (each l (omega (arith, lt, few))))
+    where
+      each : (d : ℕ) → d < 4 → ¬ IsOld (found d) → ¬ IsOld (left d)
+      each zero low = first
+      each (suc d) low = recent_at (suc d) low (b.others (suc d) (omega arith) low)
+
+  first_left : (b : BeginsSafely logs states u.before u.after) → (¬ IsOld (found 0) → ¬ IsOld (left 0)) → HoldsRecords (left 0) (held 0) ⊎ HoldsRecords (left 0) (held 0 ++ first_record logs states ∷ []) → IsLeft logs states head now found left
+  first_left b first (inl same) = record { kept = now; holds = each; which = inl (λ d. refl); recent = first_recent b first }
     where
       each : (d : ℕ) → d < 4 → HoldsRecords (left d) (now d)
       each zero low = as_now 0 low same
       each (suc d) low = kept_at (suc d) low (b.others (suc d) (omega arith) low)
-  first_left b (inr more) = record {
+  first_left b first (inr more) = record {
     kept = kept;
     holds = each;
+    recent = first_recent b first;
     which = inr (inr (record { none = no_set b; empty = none_held b; first = refl; same = same }));
   }
     where
@@ -213,14 +260,15 @@ module _ (laws : CallLaws) (logs : ℕ) (states : List State) (head generation :
       each zero low = subst (λ (rs : List Record). HoldsRecords (left 0) (rs ++ first_record logs states ∷ [])) (is_held 0 low ∙ none_held b 0 (omega (arith, some))) more
       each (suc d) low = kept_at (suc d) low (b.others (suc d) (omega arith) low)
 
-  left_by_call : AreSafe logs states u.before u.after → IsLeft logs states now left
+  left_by_call : AreSafe logs states u.before u.after → IsLeft logs states head now found left
   left_by_call (inl all) = all_kept all
   left_by_call (inr (inl c)) = all_cleared c
   left_by_call (inr (inr b)) =
       let low : 0 < 4 = omega arith in
-      first_left b (added_one (device_at u.before 0) (device_at u.after 0) (held 0) (first_record logs states ∷ []) (u.made 0) (left 0) (u.each 0 low).0 (u.each 0 low).1 b.first)
+      let one = added_one (device_at u.before 0) (device_at u.after 0) (held 0) (first_record logs states ∷ []) (u.made 0) (left 0) (u.each 0 low).0 (u.each 0 low).1 b.first in
+      first_left b (λ recent. one.1 (was_recent 0 low recent)) one.0
 
-  one_call : IsLeft logs states now left
+  one_call : IsLeft logs states head now found left
   one_call = left_by_call u.safe
 
 -- ---- the logs in use behind it
@@ -383,24 +431,26 @@ module _ (laws : CallLaws) (logs : ℕ) (states : List State) (head generation :
 
 -- ---- all of them
 
--- what calls leave of four devices that held these records, with these logs in use
-record AllLeft (logs : ℕ) (states : List State) (head generation : ℕ) (now : ℕ → List Record) (calls : List Call) (images : ℕ → List ℕ) : Type 0 where
+-- what calls leave of four devices that held these records in these bytes, with these logs in use
+record AllLeft (logs : ℕ) (states : List State) (head generation : ℕ) (now : ℕ → List Record) (found : ℕ → List ℕ) (calls : List Call) (images : ℕ → List ℕ) : Type 0 where
   kept : ℕ → List Record
   holds : HoldFour images kept
   kept_head : ℕ
   kept_generation : ℕ
+  recent : AreRecent found head logs → AreRecent images kept_head logs
   used : IsUsed kept logs kept_head logs kept_generation
   set : IsLeftByRuns now head logs → IsLeftByRuns kept kept_head logs
   unbegun : ¬ HasCompaction calls → (kept_head ≡ head) × (kept_generation ≡ generation) × KeepFour logs states now kept
   folds : FoldsOn calls (logs_from now head logs) (logs_from kept kept_head logs) states
 
 all_left : CallLaws → (logs : ℕ) (states : List State) (head generation : ℕ) (now : ℕ → List Record) (found : ℕ → List ℕ) (calls : List Call) → 1 ≤ logs → logs ≤ 4 → IsUsed now logs head logs generation
-    → HoldFour found now → (HasCompaction calls → AreOfStates (logs_from now head logs) states) → AreBetween logs states found calls → AllLeft logs states head generation now calls (left_last found calls)
+    → HoldFour found now → (HasCompaction calls → AreOfStates (logs_from now head logs) states) → AreBetween logs states found calls → AllLeft logs states head generation now found calls (left_last found calls)
 all_left laws logs states head generation now found [] some few used holds of_states are = record {
   kept = now;
   holds = holds;
   kept_head = head;
   kept_generation = generation;
+  recent = λ was. was;
   used = used;
   set = λ was. was;
   unbegun = λ none. (refl, refl, inl (λ d. refl));
@@ -416,6 +466,7 @@ all_left laws logs states head generation now found (Unbegun left ∷ calls) som
       holds = rest.holds;
       kept_head = rest.kept_head;
       kept_generation = rest.kept_generation;
+      recent = λ was. rest.recent (first.recent was);
       used = rest.used;
       set = λ was. rest.set (left_behind laws.sets logs states head generation now some used first.kept first.which was);
       unbegun = λ none. let r = rest.unbegun none in (r.0, r.1, joined laws.sets logs states head generation now some used first.kept rest.kept first.which r.2);
@@ -435,6 +486,7 @@ all_left laws logs states head generation now found (Compaction left ∷ calls) 
       holds = rest.holds;
       kept_head = rest.kept_head;
       kept_generation = rest.kept_generation;
+      recent = λ old. rest.recent (recent_behind mine logs states head generation now found left some few used holds was are.0.0 are.0.1 old);
       used = rest.used;
       set = λ runs. rest.set (set_behind mine logs states head generation now found left some few used holds was are.0.0 are.0.1 runs);
       unbegun = λ none. absurd (none tt);
@@ -447,7 +499,7 @@ all_left laws logs states head generation now found (Compaction left ∷ calls) 
 -- what the law calls_between_runs_lose_nothing says
 abbrev pub CallsKeep : Type 0
 CallsKeep = (logs : ℕ) (states : List State) (head generation : ℕ) (now : ℕ → List Record) (found : ℕ → List ℕ) (calls : List Call) → 1 ≤ logs → logs ≤ 4 → IsUsed now logs head logs generation → HoldFour found now
-    → (HasCompaction calls → AreOfStates (logs_from now head logs) states) → AreBetween logs states found calls → AreKept logs states head generation now calls (left_last found calls)
+    → (HasCompaction calls → AreOfStates (logs_from now head logs) states) → AreBetween logs states found calls → AreKept logs states head generation now found calls (left_last found calls)
 
 pub calls_keep : CallLaws → CallsKeep
 calls_keep laws = λ logs states head generation now found calls some few used holds of_states are.
@@ -457,6 +509,7 @@ calls_keep laws = λ logs states head generation now found calls some few used h
       holds = all.holds;
       kept_head = all.kept_head;
       kept_generation = all.kept_generation;
+      recent = all.recent;
       used = all.used;
       set = all.set;
       unbegun = all.unbegun;

@@ -1,5 +1,5 @@
 -- What a compaction between runs leaves of the logs.
-use Rattle.std.specs.Prelude.{◌≡◌, refl, ℕ, zero, suc, ◌+◌, ◌<◌, ◌≤◌, ◌⊎◌, List, [], ◌∷◌, ◌++◌, length, filter}
+use Rattle.std.specs.Prelude.{◌≡◌, refl, ℕ, zero, suc, ◌+◌, ◌<◌, ◌≤◌, ◌⊎◌, IfSome, Option, List, [], ◌∷◌, ◌++◌, length, filter}
 use Rattle.std.proofs.Common.{inl, inr, arith, sym, ap, subst, ◌∙◌}
 use Rattle.std.proofs.lemmas.List.{append-nil}
 use Rattle.std.proofs.lemmas.List.Elements.{filter-append}
@@ -12,11 +12,12 @@ use Rattle.machine_recovery.specs.compact_laws.log_compact.Sets.{IsFolded, OneFo
 use Rattle.record_log.specs.RecordLogLaws.{OneListOfRecords}
 use Rattle.run_opening.specs.Begins.{BeganWith}
 use Rattle.run_opening.specs.Opens.{AreSafe, records_at}
-use Rattle.run_opening.specs.log_opening.Cuts.{HoldFour}
-use Rattle.run_opening.specs.log_opening.Devices.{Device, device_at}
+use Rattle.run_opening.specs.log_opening.Cuts.{AreRecent, HoldFour, TellBytes}
+use Rattle.run_opening.specs.log_opening.Devices.{Device, HoldNoOld, HoldsNoOld, IsOld, device_at}
 use Rattle.run_opening.specs.log_opening.Kept.{AreFolded}
 use Rattle.snap_base.specs.declared.transactions.State.{State}
 use Rattle.snap_recover.specs.Logs.{all_of, is_genesis}
+use Rattle.record_log.specs.snap_outside.Disk.{DeviceHistory, content}
 use Rattle.record_log.specs.txn_records.declared.records.Record.{Record}
 use Rattle.record_log.specs.txn_records.declared.records.Record.TheVariants.{Genesis}
 use Rattle.run_recovery.specs.Between.{AreOfStates, Compaction, IsCompaction, IsFoldBehind, compacted, still}
@@ -47,6 +48,12 @@ one_log devices head (suc n) first states some alone (inr began) = omega (arith,
 
     many : 1 ≡ length (devices head ∷ logs_from devices (head + 1) n)
     many = let e = both in cc
+
+-- a device that tells bytes which are no log of format 1 with an item holds none
+pub told_recent : (ds : List Device) (bytes : ℕ → List ℕ) → TellBytes ds bytes → (d : ℕ) → d < 4 → ¬ IsOld (bytes d) → HoldsNoOld (device_at ds d)
+told_recent ds bytes tell d low recent =
+    let t = tell d low in
+    subst (λ (o : Option DeviceHistory). IfSome o (λ h. ¬ IsOld (content h))) (sym t.1) (subst (λ (b : List ℕ). ¬ IsOld b) (sym t.2) recent)
 
 module _ (laws : CompactionLaws) (logs : ℕ) (states : List State) (head generation : ℕ) (now : ℕ → List Record) (found left : ℕ → List ℕ) (some : 1 ≤ logs) (few : logs ≤ 4) (used : IsUsed now logs head logs generation) (holds : HoldFour found now)
     (of_states : AreOfStates (logs_from now head logs) states) (held : ℕ → List Record) (c : IsCompaction held found left) where
@@ -118,10 +125,18 @@ module _ (laws : CompactionLaws) (logs : ℕ) (states : List State) (head genera
 
   -- ---- what is left
 
-  pub behind : FoldsAgain held head logs c.logs.fold left
-  behind =
-      subst (λ (n : ℕ). FoldsAgain held head n c.logs.fold left) same.1
-      (subst (λ (h : ℕ). FoldsAgain held h (length c.logs.lists) c.logs.fold left) same.0 (c.safe.folds c.logs held left c.crash))
+  -- it folds again, and none of the logs in use is of format 1 with an item, where none was
+  abbrev pub Again : ℕ → ℕ → Type 0
+  Again from many = (again : FoldsAgain held from many c.logs.fold left) × (HoldNoOld from many c.before → AreRecent left again.head many)
+
+  pub again_left : Again head logs
+  again_left = subst (λ (n : ℕ). Again head n) same.1 (subst (λ (h : ℕ). Again h (length c.logs.lists)) same.0 (c.safe.folds c.logs held left c.crash, c.safe.recent c.logs held left c.crash))
+
+  abbrev pub behind : FoldsAgain held head logs c.logs.fold left
+  behind = again_left.0
+
+  pub recent_behind : AreRecent found head logs → AreRecent left behind.head logs
+  recent_behind was = again_left.1 (λ l lt. told_recent c.before found c.told (head + l) (omega (arith, lt, within_four now head logs generation few used)) (was l lt))
 
   began_behind : BeganWith (logs_from behind.now behind.head logs) states
   began_behind =

@@ -40,7 +40,7 @@ states_of lists states f (inr a) = inr a.0
 
 -- ---- what a run begins with
 
-lead_begins : (lists : List (List Record)) (states : List State) (f : Folded) → LeadTo lists states f → IsUnspent f.opening → Begins lists states f.opening
+pub lead_begins : (lists : List (List Record)) (states : List State) (f : Folded) → LeadTo lists states f → IsUnspent f.opening → Begins lists states f.opening
 lead_begins lists states f (inl a) unspent = inl (a.0, ap (λ (x : Folded). x.opening) a.1)
 lead_begins lists states f (inr a) unspent = inr (record { some = began_some lists states a.0; folded = (f, a.1, refl); same = a.0; unspent = unspent })
 
@@ -107,7 +107,7 @@ fold_on c calls f g h (compacted among same later since) (still b) =
 fold_on c calls f g h (compacted among same later since) (compacted more again last none) =
     compacted (more_compacts c calls more) (then f g h same again) (omega (arith, later, last)) none
 
-same_opening : (calls : List Call) (f g : Folded) → IsFoldBehind calls f g → IsSameOpening f.opening g.opening
+pub same_opening : (calls : List Call) (f g : Folded) → IsFoldBehind calls f g → IsSameOpening f.opening g.opening
 same_opening calls f g (still e) = record {
   states = ap (λ (x : Folded). x.opening.states) e;
   next_tid = ap (λ (x : Folded). x.opening.next_tid) e;

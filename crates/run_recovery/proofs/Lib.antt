@@ -10,6 +10,8 @@ pub mod LeftRecovered
 pub mod LogsLeft
 pub mod NextGroups
 pub mod NextRuns
+pub mod OneSerial
+pub mod PlacesOver
 pub mod RunFour
 pub mod RunsFollowed
 pub mod RunsRecovered

@@ -19,7 +19,8 @@ use Rattle.protocol.specs.Parts.{Log}
 use Rattle.protocol.specs.Records.{LogRecord}
 use Rattle.protocol.specs.Runs.{IsRun, reached}
 use Rattle.record_log.specs.Growth.{HoldsWhole, IsTried, MayAppendGroups, GrewBy, all_records, begun_groups, end_behind_groups}
-use Rattle.record_log.specs.GrowthLaws.{MomentKeeps}
+use Rattle.record_log.specs.GrowthLaws.{MomentIsRecent, MomentKeeps}
+use Rattle.run_opening.specs.log_opening.Devices.{IsOld}
 use Rattle.record_log.specs.Records.{HoldsRecords}
 use Rattle.record_log.proofs.Growing.{may_more}
 use Rattle.run_effects.specs.log_set.Told.{all_told, told}
@@ -168,3 +169,51 @@ cut_at r m images keeps synced run crash within l lt =
         ap (λ xs. rs ++ xs) (flat_map-append (λ (g : List Record). g) first groups ∙ ap (λ xs. all_records first ++ xs) (synced l m.events run))
         ∙ (sym (append_assoc rs (all_records first) (durable (log_at (reached_at r m) l)))
         ∙ ap (λ xs. xs ++ durable (log_at (reached_at r m) l)) (sym (first_at r.devices.records r.devices.added l (rw r.devices.as_many lt))))
+
+-- the log is not of format 1 with an item
+pub recent_at : (r : TheRun) (m : MomentOf r) (images : ℕ → List ℕ) → MomentIsRecent → CrashOn r m images → r.devices.head + r.work.logs ≤ 4 → (l : ℕ) → l < r.work.logs → ¬ IsOld (images (r.devices.head + l))
+recent_at r m images law crash within l lt =
+    law h here.opened.0 here.end here.opened.1 (records_at r.devices.records l) (first ++ groups) made.later made.begun opened held (subst (MayAppendGroups here.end) made.splits may) made.next (images d)
+    (subst (λ ops. IsImage (disk_after ops (disk h)) (images d)) made.so_far cut.left)
+  where
+    v : Fixed Rest
+    v = machine_in r
+
+    d : ℕ
+    d = r.devices.head + l
+
+    low : r.devices.head + l < 4
+    low = omega (arith, within, lt)
+
+    first : List (List Record)
+    first = first_groups l r.devices.added
+
+    groups : List (List Record)
+    groups = groups_of v l m.events
+
+    all : List (List Record)
+    all = first ++ groups_of v l r.events
+
+    tried : Option (List Record)
+    tried = tried_on r.failed l (group_behind v l r.events)
+
+    here : IsRunDevice (device_at r.before d) (device_at r.after d) (records_at r.devices.records l) all tried
+    here = r.devices.each l lt
+
+    cut : IsCutCall (device_at r.before d) (crash.held d) (crash.made d) (images d)
+    cut = (crash.each d low).0
+
+    h : DeviceHistory
+    h = cut.history
+
+    made : IsMade m l (content h) here.end first (begun_on r l) (crash.made d)
+    made = (crash.each d low).1.in_use l lt refl
+
+    opened : Opened (Some h) here.opened.0 here.end here.opened.1
+    opened = subst (λ t. Opened t here.opened.0 here.end here.opened.1) cut.told here.opened.2
+
+    held : HoldsRecords (content h) (records_at r.devices.records l)
+    held = subst (λ t. IfSome t (λ h. HoldsRecords (content h) (records_at r.devices.records l))) cut.told here.held
+
+    may : MayAppendGroups here.end (begun_on r l)
+    may = grew_may h (device_at r.after d).told here.end all tried (subst (λ t. GrewBy t (device_at r.after d).told here.end all tried) cut.told here.grew)

@@ -16,7 +16,7 @@ use Rattle.protocol.specs.Moments.{IsLeft, left_in}
 use Rattle.protocol.specs.Parts.{Machine}
 use Rattle.protocol.specs.Runs.{IsRun, opening, reached}
 use Rattle.machine_laws.specs.protocol_records.Crash.{CrashHolds}
-use Rattle.record_log.specs.GrowthLaws.{MomentKeeps}
+use Rattle.record_log.specs.GrowthLaws.{MomentIsRecent, MomentKeeps}
 use Rattle.machine_recovery.specs.compact_laws.Members.{FoldsToMembers}
 use Rattle.machine_recovery.specs.compact_laws.Stays.{UsedStays}
 use Rattle.machine_recovery.specs.recovery_laws.Grown.{BeginsWith}
@@ -35,7 +35,7 @@ use Rattle.run_recovery.specs.Schedules.{Schedule}
 use Rattle.run_recovery.proofs.BegunTexts.{begins_with, starts_with_as_many, text_begins}
 use Rattle.run_recovery.proofs.FourDevices.{within_four}
 use Rattle.run_recovery.proofs.FoundFour.{FourLaws}
-use Rattle.run_recovery.proofs.LogsLeft.{HoldsCut, IsCutTo, cut_at, cut_synced, first_long}
+use Rattle.run_recovery.proofs.LogsLeft.{HoldsCut, IsCutTo, cut_at, cut_synced, first_long, recent_at}
 use Rattle.run_recovery.proofs.RunFour.{RunFour, moment_asides, run_four}
 use Rattle.run_recovery.proofs.RunsFollowed.{taken_run}
 
@@ -64,6 +64,7 @@ pub record Laws (p : List CheckedMethod) : Type 0 where
   pub meant : AtEveryMomentOnLogsOf p (RecoversAsMeant p)
   pub in_order : AtEveryMomentOf p CrashHolds
   pub moment : MomentKeeps
+  pub recent : MomentIsRecent
   pub durable : (v : Fixed Rest) → GroupsAreDurable v
   pub four : FourLaws
   pub stays : UsedStays
@@ -91,6 +92,7 @@ run_recovers w schedule o es failed before after laws limits run m images crash 
   left = left;
   now = four.now;
   holds = four.holds;
+  recent = λ l lt. recent_at r m images laws.recent crash within l lt;
   lists = four.lists;
   used = four.used;
   set = four.set;

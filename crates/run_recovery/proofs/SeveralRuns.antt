@@ -4,13 +4,11 @@ use Rattle.std.specs.List.{AllByRecursion}
 use Rattle.std.proofs.Common.{inl, inr, append_assoc, arith, sym, ap, subst, ◌∙◌}
 use Rattle.std.proofs.lemmas.List.{append-nil}
 use Rattle.aml_slice.specs.aml_tree.Tree.{CheckedMethod}
-use Rattle.run_opening.specs.log_opening.Cuts.{HoldFour}
+use Rattle.run_opening.specs.log_opening.Cuts.{AreRecent, HoldFour}
 use Rattle.run_opening.specs.log_opening.Devices.{Device, device_at}
 use Rattle.protocol.specs.Events as machine
 use Rattle.protocol.specs.Moments.{left_in}
-use Rattle.protocol.specs.History.{history}
 use Rattle.protocol.specs.Runs.{reached}
-use Rattle.machine_laws.specs.protocol_records.Crash.{members}
 use Rattle.record_log.specs.RecordLogLaws.{OneListOfRecords}
 use Rattle.record_log.specs.Records.{HoldsRecords}
 use Rattle.machine_recovery.specs.compact_laws.log_compact.declared.folds.Folded.{Folded}
@@ -39,6 +37,8 @@ use Rattle.run_recovery.specs.Several.{Adds, BeganOn, Crash, CutOff, EachIsBehin
 use Rattle.run_recovery.proofs.CallsKept.{CallsKeep}
 use Rattle.run_recovery.proofs.FourDevices.{SetLaws, TellAll, from_at, from_long, fronts_are, left_in_front, left_set, one_told, used_of, within_four}
 use Rattle.run_recovery.proofs.Leading.{alone_of, begun_leads, one_lead, run_leads, same_counts, states_of}
+use Rattle.run_recovery.proofs.OneSerial.{one_serial_run}
+use Rattle.run_recovery.proofs.PlacesOver.{places_go_on}
 
 -- ---- one of several programs
 
@@ -75,8 +75,9 @@ record AtCrash (x : CutOff) (crash : Crash (the_run x.run) x.images) : Type 0 wh
   now : ℕ → List Record
   fold : Folded
   by : LeftBy x crash now fold
-  adds : Adds x crash fold
+  adds : Adds x crash now fold by
   holds : HoldFour x.images now
+  recent : AreRecent x.images x.run.devices.head x.work.logs
   used : IsUsed now x.work.logs x.run.devices.head x.work.logs x.run.devices.generation
   leads : LeadTo (logs_from now x.run.devices.head x.work.logs) x.work.states fold
   set : FindsRunsLogs (the_run x.run) → IsLeftByRuns now x.run.devices.head x.work.logs
@@ -101,6 +102,7 @@ crashed laws x recovered (Early crash) =
       by = (b, refl, refl);
       adds = record { more = []; committed = ap (λ (q : Opening). q.committed) x.run.devices.opens ∙ sym (append-nil x.opening.committed); batches = omega arith; acts = omega arith; members = refl };
       holds = b.holds;
+      recent = b.recent;
       used = b.used;
       leads = early_leads laws x b;
       set = b.set;
@@ -118,9 +120,10 @@ crashed laws x recovered (Within m crash) =
         committed = ap (λ (q : Opening). q.committed ++ more) x.run.devices.opens;
         batches = refl;
         acts = refl;
-        members = (members x.work.logs (left_in (reached (machine_of x.work x.opening) m.events) r.kept) (history (machine_of x.work x.opening) m.events), r.members.ordered, r.meant.values);
+        members = (r.members.ordered, r.meant.values);
       };
       holds = r.holds;
+      recent = r.recent;
       used = r.used;
       leads = subst (λ (l : List (List Record)). LeadTo l x.work.states (fold_left r)) (sym r.lists) (inr (g.same, g.folded));
       set = λ found. left_set r.now x.run.devices.head x.work.logs x.run.devices.generation (r.set found);
@@ -143,6 +146,7 @@ left_by laws x recovered crash =
       holds = k.holds;
       head = k.kept_head;
       generation = k.kept_generation;
+      recent = k.recent c.recent;
       used = k.used;
       set = λ found. k.set (c.set found);
       unbegun = k.unbegun;
@@ -258,7 +262,7 @@ acts_joined (kept.Batch bid tids values ∷ xs) ys = acts_joined xs ys
 acts_joined (kept.Act tid m c value ∷ xs) ys = omega (arith, acts_joined xs ys)
 
 pub values_stand : (f : Folded) (xs : List CutOff) (on : GoOn xs) → OfNext (λ (x : CutOff). x.run.devices.fold ≡ f) xs → ValuesStand f xs on
-values_stand f [] on first = record { committed = refl; all = λ none. sym (append-nil f.opening.committed); batches = omega arith; acts = omega arith; members = tt }
+values_stand f [] on first = record { committed = refl; all = λ none. sym (append-nil f.opening.committed); batches = omega arith; acts = omega arith; members = tt; one = one_serial_run f [] on first; rise = tt }
 values_stand f (x ∷ xs) on first =
     let left = on.0.0 in
     let more : List Kept = left.adds.more in
@@ -274,4 +278,6 @@ values_stand f (x ∷ xs) on first =
       batches = omega (arith, later.batches, counts.0, left.adds.batches, batches, batches_joined more (added_by xs on.1));
       acts = omega (arith, later.acts, counts.1, left.adds.acts, acts, acts_joined more (added_by xs on.1));
       members = (left.adds.members, later.members);
+      one = one_serial_run f (x ∷ xs) on first;
+      rise = places_go_on (x ∷ xs) on;
     }

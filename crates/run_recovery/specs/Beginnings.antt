@@ -11,7 +11,7 @@ use Rattle.run_opening.specs.Begins.{AreEmpty, Begins}
 use Rattle.run_opening.specs.Opens.{first_groups, with_first}
 use Rattle.run_opening.specs.Starts.{first_record}
 use Rattle.run_recovery.specs.Crashes.{FindsRunsLogs}
-use Rattle.run_opening.specs.log_opening.Cuts.{HoldFour, IsCutCall, IsFrontOfCall}
+use Rattle.run_opening.specs.log_opening.Cuts.{AreRecent, HoldFour, IsCutCall, IsFrontOfCall}
 use Rattle.run_recovery.specs.OneRun.{TheRun}
 use Rattle.snap_base.specs.declared.transactions.State.{State}
 use Rattle.record_log.specs.snap_outside.declared.devices.DevOp.{DevOp}
@@ -45,6 +45,8 @@ KeepsOrBegins logs states records kept = (kept ≡ records) ⊎ (AreEmpty record
 pub record BeginsAgain (r : TheRun) (images : ℕ → List ℕ) : Type 0 where
   pub now : ℕ → List Record
   pub holds : HoldFour images now
+  -- none of the logs in use is of format 1 with an item
+  pub recent : AreRecent images r.devices.head r.work.logs
   pub kept : List (List Record)
   pub lists : logs_from now r.devices.head r.work.logs ≡ kept
   pub which : KeepsOrBegins r.work.logs r.work.states r.devices.records kept

@@ -12,7 +12,7 @@ use Rattle.run_opening.specs.log_opening.Kept.{AreFolded}
 use Rattle.run_opening.specs.Begins.{AreEmpty, BeganWith, Begins}
 use Rattle.run_opening.specs.Opens.{AreSafe}
 use Rattle.run_opening.specs.Starts.{first_record}
-use Rattle.run_opening.specs.log_opening.Cuts.{HoldFour, IsCutCall, IsFrontOfCall, TellBytes}
+use Rattle.run_opening.specs.log_opening.Cuts.{AreRecent, HoldFour, IsCutCall, IsFrontOfCall, TellBytes}
 use Rattle.snap_base.specs.declared.transactions.State.{State}
 use Rattle.snap_recover.specs.declared.openings.Opening.{Opening}
 use Rattle.record_log.specs.snap_outside.declared.devices.DevOp.{DevOp}
@@ -129,13 +129,15 @@ pub record BeginsBehind (calls : List Call) (lists : List (List Record)) (states
 
 -- ---- what they leave
 
--- What they leave of four devices that held these records, with so many logs in use from the head on: as many are in use, and they are as
--- runs leave them, where they were found so. Where no compaction is among the calls they are the same.
-pub record AreKept (logs : ℕ) (states : List State) (head generation : ℕ) (now : ℕ → List Record) (calls : List Call) (images : ℕ → List ℕ) : Type 0 where
+-- What they leave of four devices that held these records, in these bytes, with so many logs in use from the head on: as many are in use, and
+-- they are as runs leave them, where they were found so. Where no compaction is among the calls they are the same.
+pub record AreKept (logs : ℕ) (states : List State) (head generation : ℕ) (now : ℕ → List Record) (found : ℕ → List ℕ) (calls : List Call) (images : ℕ → List ℕ) : Type 0 where
   pub kept : ℕ → List Record
   pub holds : HoldFour images kept
   pub kept_head : ℕ
   pub kept_generation : ℕ
+  -- none of the logs in use is of format 1 with an item, where none was
+  pub recent : AreRecent found head logs → AreRecent images kept_head logs
   pub used : IsUsed kept logs kept_head logs kept_generation
   pub set : IsLeftByRuns now head logs → IsLeftByRuns kept kept_head logs
   pub unbegun : ¬ HasCompaction calls → (kept_head ≡ head) × (kept_generation ≡ generation) × KeepFour logs states now kept

@@ -15,7 +15,7 @@ use Rattle.machine_recovery.specs.compact_laws.Members.{FoldsToMembers}
 use Rattle.run_opening.specs.Opens.{first_groups, with_first}
 use Rattle.run_effects.specs.Groups.{groups_of, group_behind}
 use Rattle.run_effects.specs.Made.{IsMade}
-use Rattle.run_opening.specs.log_opening.Cuts.{HoldFour, IsCutCall, IsFrontOfCall}
+use Rattle.run_opening.specs.log_opening.Cuts.{AreRecent, HoldFour, IsCutCall, IsFrontOfCall}
 use Rattle.run_recovery.specs.OneRun.{TheRun, MomentOf, alone_in, history_at, machine_in, reached_at}
 use Rattle.record_log.specs.snap_outside.declared.devices.DevOp.{DevOp}
 use Rattle.record_log.specs.snap_outside.Disk.{DeviceHistory, content}
@@ -61,6 +61,8 @@ pub record Recovers (p : List CheckedMethod) (r : TheRun) (m : MomentOf r) (imag
   -- what the four devices hold then
   pub now : ℕ → List Record
   pub holds : HoldFour images now
+  -- none of the logs in use is of format 1 with an item
+  pub recent : AreRecent images r.devices.head r.work.logs
   pub lists : logs_from now r.devices.head r.work.logs ≡ grown (earlier r) (left_in (reached_at r m) kept)
   -- the logs in use are the same; and they are the set, where the run found logs as runs leave them
   pub used : IsUsed now r.work.logs r.devices.head r.work.logs r.devices.generation

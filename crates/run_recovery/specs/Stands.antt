@@ -12,6 +12,7 @@ use Rattle.run_recovery.specs.Beginnings.{BeginsAgain, CrashBefore}
 use Rattle.run_recovery.specs.Crashes.{CrashOn, Recovers}
 use Rattle.run_recovery.specs.Next.{GoesOnFrom}
 use Rattle.run_recovery.specs.OneRun.{TheRun, MomentOf, alone_in, history_in, machine_in, reached_in}
+use Rattle.told_codes.specs.Meant.{CodesAsMeant}
 
 pub record RunStands (r : TheRun) : Type 0 where
   -- Its committed transactions, one by one in the order of their places as the language means each, give the results that they had;
@@ -28,6 +29,11 @@ pub record RunStands (r : TheRun) : Type 0 where
   -- words: behind the settled batches below it and the ACTs with a value and a number below the one told, its batch's PACTs by tid
   -- give a value each up to it, and it fails with the code told.
   pub told : VerdictsAsMeant r.work.program (machine_in r) (alone_in r.work.program r) r.events
+  -- Who is told a code, and nobody else than those that are told so. Those that are told a place, with a value or with a code of their
+  -- own, mean it one by one in the order of their places. Who is told a code of its own means it behind those alone that are told that
+  -- they committed at a place below its own; who failed with its batch did so behind those of them alone that count for it. It holds
+  -- also where the run stopped early.
+  pub stopped_codes : CodesAsMeant r.work.program (machine_in r) (alone_in r.work.program r) r.events
   -- Each verdict has its evidence in the events of the run, and stays. Who was given up between two batches was so by an event behind
   -- which the first is the greatest of those before it, and the second the least of those behind it.
   pub evidence : VerdictsStand (machine_in r) (alone_in r.work.program r) r.events

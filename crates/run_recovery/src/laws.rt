@@ -1,8 +1,8 @@
 //! The laws, of every checked program.
-ghost use Rattle.std.specs.Prelude.{◌≡◌, ◌≤◌, ◌⊎◌, ℕ, List, Bool, map, Contains};
+ghost use Rattle.std.specs.Prelude.{◌≡◌, ◌<◌, ◌≤◌, ◌⊎◌, ℕ, List, Bool, map, Contains};
 ghost use Rattle.std.specs.List.{AllByRecursion};
 ghost use Rattle.aml_slice.specs.aml_check.Checked.{methods_of};
-ghost use Rattle.run_opening.specs.log_opening.Devices.{Device};
+ghost use Rattle.run_opening.specs.log_opening.Devices.{Device, device_at};
 ghost use Rattle.run_opening.specs.log_opening.Kept.{AreFolded};
 ghost use Rattle.machine_laws.specs.Meant.{CommittedAsMeant, VerdictsAsMeant};
 ghost use Rattle.protocol.specs.Events as machine;
@@ -13,8 +13,9 @@ ghost use Rattle.machine_laws.specs.protocol_theorems.Quiet.{AnsweredWhenQuiet};
 ghost use Rattle.machine_laws.specs.protocol_theorems.Sets.{NumbersStand};
 ghost use Rattle.machine_laws.specs.protocol_verdicts.Evidence.{VerdictsStand};
 ghost use Rattle.machine_laws.specs.protocol_verdicts.EvidenceSerial.{VerdictsTell};
-ghost use Rattle.run_opening.specs.Begins.{AreEmpty};
-ghost use Rattle.run_opening.specs.Opens.{AreSafe, HasRoomToBegin};
+ghost use Rattle.record_log.specs.snap_outside.Causes.{Rose};
+ghost use Rattle.run_opening.specs.Begins.{AreEmpty, IsUnspent};
+ghost use Rattle.run_opening.specs.Opens.{AreSafe, HasRoomToBegin, MayOpen};
 ghost use Rattle.run_opening.specs.log_opening.Cuts.{HoldFour, TellBytes};
 ghost use Rattle.log_compaction.specs.Crashes.{CompactsSafely, FoldsAgain};
 ghost use Rattle.machine_recovery.specs.compact_laws.log_compact.declared.folds.Folded.{Folded};
@@ -24,7 +25,7 @@ ghost use Rattle.run_recovery.specs.Beginnings.{BeginsAgain, CrashBefore};
 ghost use Rattle.run_recovery.specs.Between.{AreBetween, AreKept, AreOfStates, Call, HasCompaction, IsSameOpening, left_last};
 ghost use Rattle.run_recovery.specs.Crashes.{CrashOn, FindsRunsLogs, Recovers};
 ghost use Rattle.run_recovery.specs.EachRun.{AfterEachRun, OfEachRun};
-ghost use Rattle.run_recovery.specs.Next.{GoesOnFrom, fold_left, records_left};
+ghost use Rattle.run_recovery.specs.Next.{GoesOnFrom, fold_left, opening_left, records_left};
 ghost use Rattle.run_recovery.specs.Recoverable.{AreRecoverable};
 ghost use Rattle.run_recovery.specs.OneRun.{TheRun, MomentOf, the_run};
 ghost use Rattle.run_recovery.specs.Runs.{HasRunWork, GoesOnWith, machine_of};
@@ -36,6 +37,7 @@ ghost use Rattle.aml_slice.specs.aml_tree.Tree.{CheckedMethod};
 ghost use Rattle.snap_recover.specs.declared.openings.Opening.{Opening};
 ghost use Rattle.snap_work.specs.Kept.{KeepsLimits};
 ghost use Rattle.snap_work.specs.Works.{Work};
+ghost use Rattle.told_codes.specs.Meant.{CodesAsMeant};
 ghost use Rattle.record_log.specs.txn_records.declared.records.Record.{Record};
 
 use aml_slice::Checked;
@@ -52,7 +54,10 @@ use machine_recovery::{
 };
 use record_log::{groups_are_whole, one_list_of_records};
 use run_effects::groups_grow;
-use run_opening::{begins_again, clear_is_safe, logs_are_lists, one_list, opening_is_safe};
+use run_opening::{
+    beginning_is_safe, begins_again, clear_is_safe, logs_are_lists, one_list, opening_is_safe,
+};
+use told_codes::told_codes_are_as_meant;
 
 /// What one thread takes by the schedule of a seed is among what several workers may take, and so is the event with which it goes on.
 pub fn seeds_pick_runs()
@@ -63,11 +68,12 @@ pub fn seeds_pick_runs()
 
 /// What a run took are events of a run of the machine: its committed transactions, one by one in the order of their places as the
 /// language means each, give the results that they had, and where it has ended the actors' states are those that this leaves; who
-/// is told a place is told what it means there; each verdict has its evidence in the events, and stays; and where it has ended all
-/// is answered.
+/// is told a place is told what it means there, and who is told a code is told what it means behind those alone that are told that
+/// they committed; each verdict has its evidence in the events, and stays; and where it has ended all is answered.
 pub fn runs_are_as_meant(program: &Checked)
     ensures committed { AfterEachRun (methods_of program.now) (CommittedAsMeant (methods_of program.now)) }
     ensures told { OfEachRun (methods_of program.now) (VerdictsAsMeant (methods_of program.now)) }
+    ensures stopped_codes { OfEachRun (methods_of program.now) (CodesAsMeant (methods_of program.now)) }
     ensures evidence { OfEachRun (methods_of program.now) VerdictsStand }
     ensures answered { AfterEachRun (methods_of program.now) AnsweredWhenQuiet }
     ensures order { AfterEachRun (methods_of program.now) OrderHolds }
@@ -83,6 +89,7 @@ pub fn runs_are_as_meant(program: &Checked)
     numbers_are_the_ends_of_sets(program);
     every_run_ends(program);
     verdicts_are_as_meant(program);
+    told_codes_are_as_meant(program);
     verdicts_have_evidence(program);
     runs_that_cannot_go_on_have_answered(program);
 }
@@ -112,12 +119,13 @@ pub fn runs_are_recovered(program: &Checked)
 }
 
 /// A crash while a run begins loses no record of the logs in use: they hold what they held, or, where they held none, Genesis alone.
-/// The same logs are in use, and a run of the same states begins on them with the same opening.
+/// The same logs are in use, none of them of format 1 with an item, and a run of the same states begins on them with the same opening.
 pub fn beginnings_are_recovered()
     ensures { (r : TheRun) (images : ℕ → List ℕ) → KeepsLimits r.work → CrashBefore r images → BeginsAgain r images }
 {
     groups_are_whole();
     begins_again();
+    beginning_is_safe();
     one_list_of_records();
     opening_is_safe();
     clear_is_safe();
@@ -140,14 +148,14 @@ pub fn crashed_runs_go_on()
 }
 
 /// Calls in which no run began, and compactions, one behind the other, each made to its end or cut off by a crash, lose nothing. As
-/// many logs are in use behind them, and these fold to the same states, next numbers and counts. So a run of the same states begins
-/// on them as it began before, and with no other opening; only, where a compaction took effect, nothing is committed since. Where no
-/// compaction is among the calls the same logs are in use: they hold what they held, or, only where they held no record, Genesis
-/// alone; and of the other side of a set with a checkpoint records may be gone.
+/// many logs are in use behind them, none of these of format 1 with an item, where none was; and they fold to the same states, next
+/// numbers and counts. So a run of the same states begins on them as it began before, and with no other opening; only, where a
+/// compaction took effect, nothing is committed since. Where no compaction is among the calls the same logs are in use: they hold what
+/// they held, or, only where they held no record, Genesis alone; and of the other side of a set with a checkpoint records may be gone.
 pub fn calls_between_runs_lose_nothing()
     ensures { (logs : ℕ) (states : List State) (head generation : ℕ) (now : ℕ → List Record) (found : ℕ → List ℕ) (calls : List Call)
         → 1 ≤ logs → logs ≤ 4 → IsUsed now logs head logs generation → HoldFour found now → (HasCompaction calls → AreOfStates (logs_from now head logs) states)
-        → AreBetween logs states found calls → AreKept logs states head generation now calls (left_last found calls) }
+        → AreBetween logs states found calls → AreKept logs states head generation now found calls (left_last found calls) }
 {
     one_list_of_records();
     one_fold();
@@ -178,6 +186,17 @@ pub fn runs_use_states_and_next_numbers()
 pub fn what_is_left_is_recoverable()
     ensures within { (p : List CheckedMethod) (r : TheRun) (m : MomentOf r) (images : ℕ → List ℕ) (left : Recovers p r m images) → GoesOnFrom left → FindsRunsLogs r
         → (again : List Device) → TellBytes again images → AreRecoverable again r.devices.head (records_left left) (fold_left left) }
+    // And a run of the same states, on as many logs, may begin on it with that opening, unless a number of it is spent: behind a crash at
+    // any moment, behind one while a run begins, and behind either of them and any calls.
+    ensures runs { (p : List CheckedMethod) (r : TheRun) (m : MomentOf r) (images : ℕ → List ℕ) (left : Recovers p r m images) → GoesOnFrom left → KeepsLimits r.work → IsUnspent (opening_left left)
+        → (again after : List Device) → TellBytes again images → ((d : ℕ) → d < 4 → ¬ Rose (device_at again d).faults (device_at after d).faults)
+        → MayOpen r.work.logs r.work.states again after (records_left left) (opening_left left) }
+    ensures runs_early { (r : TheRun) (images : ℕ → List ℕ) (b : BeginsAgain r images) → KeepsLimits r.work
+        → (again after : List Device) → TellBytes again images → ((d : ℕ) → d < 4 → ¬ Rose (device_at again d).faults (device_at after d).faults)
+        → MayOpen r.work.logs r.work.states again after b.kept r.opening }
+    ensures runs_behind { (x : CutOff) (left : Left x x.crash) → IsUnspent left.fold.opening
+        → (again after : List Device) → TellBytes again (bytes_left x) → ((d : ℕ) → d < 4 → ¬ Rose (device_at again d).faults (device_at after d).faults)
+        → MayOpen x.work.logs x.work.states again after (in_use left) left.fold.opening }
     ensures early { (r : TheRun) (images : ℕ → List ℕ) (b : BeginsAgain r images) → ¬ AreEmpty b.kept → FindsRunsLogs r
         → (again : List Device) → TellBytes again images → AreRecoverable again r.devices.head b.kept r.devices.fold }
     ensures compacted { (held : ℕ → List Record) (was count : ℕ) (f : Folded) (images : ℕ → List ℕ) (left : FoldsAgain held was count f images)

@@ -12,4 +12,5 @@ returns c w es m kept earlier f is run left many before begins =
       results = meant.results;
       values = ap (λ xs. map (λ (x : PlacedResult). x.2) xs) folds.ordered ∙ (results_at _ ∙ sym meant.results);
       states = λ a below. folds.states a below ∙ (sym (crash.states a below) ∙ meant.states a below);
+      as_many = meant.as_many;
     }

@@ -16,4 +16,4 @@ returns c =
       sets = record { one = c.one_use.ensures; tell = c.fronts_tell.ensures; fronts = c.fronts_of_records.ensures; clear = c.clearing_keeps.ensures; begin = c.begun_is_set.ensures };
       lists = c.one_list_of_records.ensures;
     })
-    c.groups_are_whole.ensures.keeps c.begins_again.ensures.unwritten c.begins_again.ensures.written
+    (record { keeps = c.groups_are_whole.ensures.keeps; moment = c.groups_are_whole.ensures.recent; begins = c.beginning_is_safe.ensures.recent }) c.begins_again.ensures.unwritten c.begins_again.ensures.written

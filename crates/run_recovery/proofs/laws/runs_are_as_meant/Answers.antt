@@ -7,6 +7,7 @@ use Rattle.machine_laws.specs.protocol_theorems.Quiet.{AnsweredWhenQuiet}
 use Rattle.machine_laws.specs.protocol_theorems.Sets.{NumbersStand}
 use Rattle.machine_laws.specs.protocol_verdicts.Evidence.{VerdictsStand}
 use Rattle.machine_laws.specs.protocol_verdicts.EvidenceSerial.{VerdictsTell}
+use Rattle.told_codes.specs.Meant.{CodesAsMeant}
 use Rattle.run_recovery.proofs.RunsRecovered.{after_run, of_run}
 use Rattle.run_recovery.proofs.laws.runs_are_as_meant.Goals as goal
 
@@ -15,6 +16,9 @@ returns-clause-committed c = after_run (CommittedAsMeant (methods_of c.args.prog
 
 pub returns-clause-told : goal.returns-clause-told
 returns-clause-told c = of_run (VerdictsAsMeant (methods_of c.args.program.now)) (methods_of c.args.program.now) c.verdicts_are_as_meant.ensures
+
+pub returns-clause-stopped_codes : goal.returns-clause-stopped_codes
+returns-clause-stopped_codes c = of_run (CodesAsMeant (methods_of c.args.program.now)) (methods_of c.args.program.now) c.told_codes_are_as_meant.ensures
 
 pub returns-clause-evidence : goal.returns-clause-evidence
 returns-clause-evidence c = of_run VerdictsStand (methods_of c.args.program.now) c.verdicts_have_evidence.ensures

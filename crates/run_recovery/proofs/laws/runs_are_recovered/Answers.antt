@@ -8,6 +8,7 @@ returns c = recovers (methods_of c.args.program.now) (record {
   meant = c.logs_recover_as_meant.ensures;
   in_order = c.recovered_transactions_are_in_order.ensures;
   moment = c.groups_are_whole.ensures.moment;
+  recent = c.groups_are_whole.ensures.recent;
   durable = c.groups_grow.ensures.durable;
   four = record {
     log = record {

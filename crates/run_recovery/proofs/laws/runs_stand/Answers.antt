@@ -12,6 +12,7 @@ use Rattle.machine_laws.specs.protocol_verdicts.EvidenceSerial.{VerdictsTell}
 use Rattle.run_recovery.specs.Crashes.{Recovers}
 use Rattle.run_recovery.specs.EachRun.{AfterEachRun, OfEachRun}
 use Rattle.run_recovery.specs.OneRun.{the_run}
+use Rattle.told_codes.specs.Meant.{CodesAsMeant}
 use Rattle.run_recovery.proofs.laws.runs_stand.Goals as goal
 
 pub returns : goal.returns
@@ -21,6 +22,7 @@ returns c w schedule o es failed before after same limits run =
     record {
       committed = own (λ q. AfterEachRun q (CommittedAsMeant q)) c.runs_are_as_meant.ensures.committed w schedule o es failed before after refl limits run;
       told = own (λ q. OfEachRun q (VerdictsAsMeant q)) c.runs_are_as_meant.ensures.told w schedule o es failed before after refl limits run;
+      stopped_codes = own (λ q. OfEachRun q (CodesAsMeant q)) c.runs_are_as_meant.ensures.stopped_codes w schedule o es failed before after refl limits run;
       evidence = own (λ q. OfEachRun q VerdictsStand) c.runs_are_as_meant.ensures.evidence w schedule o es failed before after refl limits run;
       answered = own (λ q. AfterEachRun q AnsweredWhenQuiet) c.runs_are_as_meant.ensures.answered w schedule o es failed before after refl limits run;
       order = own (λ q. AfterEachRun q OrderHolds) c.runs_are_as_meant.ensures.order w schedule o es failed before after refl limits run;
