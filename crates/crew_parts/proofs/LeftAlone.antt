@@ -66,7 +66,7 @@ module _ (logs l : ℕ) where
 
 -- ---- what it gets
 
-run_front : (w : Fixed Rest) (es more : List Event) (s : Machine Rest) → EachAllowed w (es ++ more) s → EachAllowed w es s
+pub run_front : (w : Fixed Rest) (es more : List Event) (s : Machine Rest) → EachAllowed w (es ++ more) s → EachAllowed w es s
 run_front w [] more s run = tt
 run_front w (e ∷ es) more s run = (run.0, run_front w es more (after w e s) run.1)
 

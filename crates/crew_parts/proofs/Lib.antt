@@ -7,4 +7,5 @@ pub mod LeftAlone
 mod UnderWay
 mod Telling
 mod DevicesStand
+mod OutputStands
 pub mod FewActs

@@ -12,7 +12,7 @@ use Rattle.snap_hand.specs.Shown.{Shown, TheRing, TheBook, ThePost, TheDesk, The
 ring_is : (s t : Machine Rest) → part s 0 ≡ part t 0 → s.ring ≡ t.ring
 ring_is s t e = cc e
 
-book_is : (s t : Machine Rest) → part s 1 ≡ part t 1 → s.book ≡ t.book
+pub book_is : (s t : Machine Rest) → part s 1 ≡ part t 1 → s.book ≡ t.book
 book_is s t e = cc e
 
 post_is : (s t : Machine Rest) → part s 2 ≡ part t 2 → s.post ≡ t.post

@@ -4,6 +4,7 @@ pub mod Acts
 pub mod Crews
 pub mod Steps
 pub mod Devices
+pub mod Outputs
 pub mod LawsOfRuns
 pub use Rattle.atomic_table.specs as atomic_table
 pub use Rattle.turn_table.specs as turn_table

@@ -5,6 +5,7 @@ ghost use Rattle.snap_hand.specs.core_rows.OnRuns.{HasRun};
 ghost use Rattle.crew_parts.specs.Crews.{AreFirstShares, HasCome, Stands, kept};
 ghost use Rattle.crew_parts.specs.Devices.{AreAtMoment, MayTell};
 ghost use Rattle.crew_parts.specs.LawsOfRuns.{LawsOfRuns};
+ghost use Rattle.crew_parts.specs.Outputs.{MayTake, OutputStands, taken_at};
 ghost use Rattle.crew_parts.specs.Shares.{ShareState};
 ghost use Rattle.crew_parts.specs.declared.acts.Act.{Act};
 ghost use Rattle.crew_parts.specs.Steps.{CrewTable, FindsMoment, HoldsForSync, IsCrewMoment};
@@ -74,6 +75,21 @@ pub fn devices_stand_at_moments<D: LogDev + Drop, O: Sink + Drop>(tables: &Table
     requires { AreTables tables.now }
     ensures { (start : List ShareState) (s u : CrewTable) (told : ℕ → Option DeviceHistory) (now : Kept (touched tables.now) (MayDo tables.now) start s) (end : Kept (touched tables.now) (MayDo tables.now) start u) → AreFirstShares (fixed_of tables.now) start → IsLater s u →
         ((l : ℕ) → l < (fixed_of tables.now).text.logs → MayTell tables.now start s u now l (told l)) → AreAtMoment tables.now start s u now end told }
+{
+    laws_of_runs(tables);
+    histories_go_on::<Share<D, O>>(tables);
+    runs_join::<Share<D, O>>(tables);
+    what_is_held_is_left::<Share<D, O>>(tables);
+}
+
+/// At each step of a crew's table, whatever its workers do between two of their acts, the output has taken the lines of the replies of the
+/// events that are recorded by then; or these, and a front of the line of one more, which is allowed behind them. What a worker prints
+/// while it holds the book and the desk, up to its next act, is some or all of that act's line; and nothing, where the act is no reply.
+/// Of an output that failed it is what its fault left.
+pub fn output_stands_at_moments<D: LogDev + Drop, O: Sink + Drop>(tables: &Tables)
+    requires { AreTables tables.now }
+    ensures { (start : List ShareState) (s u : CrewTable) (taken : Option (List ℕ)) (now : Kept (touched tables.now) (MayDo tables.now) start s) → AreFirstShares (fixed_of tables.now) start →
+        MayTake tables.now start s u now taken → OutputStands (fixed_of tables.now) (kept now.history) (taken_at start) taken }
 {
     laws_of_runs(tables);
     histories_go_on::<Share<D, O>>(tables);

@@ -14,8 +14,8 @@ mod shares;
 pub use acts::Act;
 pub use besides::{Beside, Slot};
 pub use laws::{
-    acts_are_few, acts_are_runs, crashes_find_moments, devices_stand_at_moments, passes_have_room,
-    passes_stand, runs_lead, steps_are_moments,
+    acts_are_few, acts_are_runs, crashes_find_moments, devices_stand_at_moments,
+    output_stands_at_moments, passes_have_room, passes_stand, runs_lead, steps_are_moments,
 };
 pub use run_effects::{appends_drive, runs_of};
 pub use shares::Share;

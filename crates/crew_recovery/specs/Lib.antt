@@ -1,0 +1,4 @@
+pub mod CrewRuns
+pub mod Cuts
+pub mod Told
+pub mod Recovered
