@@ -9,7 +9,7 @@ use snap_recover::Kept;
 use std::alloc::Global;
 use txn_records::Record;
 
-/// A record of a log with one actor.
+/// A record of a log, of actor 0 where it names none.
 #[derive(Clone, Copy)]
 pub enum Written {
     /// So many logs, and the first field of the actor's first state.
@@ -23,10 +23,16 @@ pub enum Written {
     Prepare(u64, i64),
     /// Of a transaction, behind this batch.
     Act(u64, u64),
+    /// So many logs, and the first field of the first state of each actor.
+    Begin(u8, &'static [i64]),
+    /// Of a transaction, on this actor.
+    PrepareOn(u64, u16, i64),
+    /// Of a transaction, with these actors.
+    ActOn(u64, &'static [u16]),
 }
 
 /// What a round reads of each log, and what it answers: the members, a batch by its number and an undeclared transaction by its tid, and
-/// the first field of the actor's state.
+/// the first field of the state of actor 0.
 pub struct Round {
     pub lists: &'static [&'static [Written]],
     pub answer: Result<(&'static [u64], Option<i64>), FollowNo>,
@@ -80,7 +86,39 @@ fn record(alloc: Global, written: Written) -> Result<Record, Memory> {
             value: 0,
             actors: Sequence::from_vec(vec![in alloc; ActorId(0)]?),
         },
+        Written::Begin(logs, fields) => Record::Genesis {
+            logs,
+            states: states_of(alloc, fields)?,
+        },
+        Written::PrepareOn(tid, actor, field) => Record::ActPrepare {
+            tid: Tid(tid),
+            actor: ActorId(actor),
+            state: state(field),
+        },
+        Written::ActOn(tid, actors) => Record::ActDone {
+            tid: Tid(tid),
+            m: Bid(0),
+            c: tid,
+            value: 0,
+            actors: actors_of(alloc, actors)?,
+        },
     })
+}
+
+fn states_of(alloc: Global, fields: &[i64]) -> Result<Sequence<State>, Memory> {
+    let mut states = Sequence::new(alloc);
+    for field in fields.iter() {
+        states.push(state(*field))?;
+    }
+    Ok(states)
+}
+
+fn actors_of(alloc: Global, numbers: &[u16]) -> Result<Sequence<ActorId>, Memory> {
+    let mut actors = Sequence::new(alloc);
+    for number in numbers.iter() {
+        actors.push(ActorId(*number))?;
+    }
+    Ok(actors)
 }
 
 fn lists_of(alloc: Global, lists: &[&[Written]]) -> Result<Sequence<Sequence<Record>>, Memory> {

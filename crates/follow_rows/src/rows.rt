@@ -1,6 +1,8 @@
-//! The rows, in one test.
+//! The rows, in two tests.
 use crate::rounds::{Round, Written, answers_otherwise};
-use Written::{Act, Checkpoint, Commit, Complete, Done, Genesis, Info, Prepare};
+use Written::{
+    Act, ActOn, Begin, Checkpoint, Commit, Complete, Done, Genesis, Info, Prepare, PrepareOn,
+};
 use snap_base::{ActorId, Bid};
 use snap_follow::FollowNo;
 use std::test::Fail;
@@ -166,6 +168,165 @@ const BAD_BEGINNINGS: [Round; 3] = [
     },
 ];
 
+/// Two logs of actors 0, 1 and 2: transactions 1 and 2 only read actor 2, transaction 2 reads actor 0, too, and transaction 4 puts 105 there.
+const BEHIND_READERS: [Written; 7] = [
+    Begin(2, &[100, 0, 7]),
+    PrepareOn(1, 2, 7),
+    PrepareOn(2, 2, 7),
+    PrepareOn(2, 0, 100),
+    ActOn(2, &[0, 2]),
+    PrepareOn(4, 0, 105),
+    ActOn(4, &[0]),
+];
+
+/// The commit of transaction 1 is in the other log, and comes late: before it is written,
+const READER_NOT_YET: [Round; 2] = [
+    Round {
+        lists: &[&BEHIND_READERS, &[]],
+        answer: Ok((&[], Some(100))),
+    },
+    Round {
+        lists: &[&BEHIND_READERS, &[]],
+        answer: Ok((&[2, 4], Some(105))),
+    },
+];
+
+/// between the two readings, where what came behind it is not lost,
+const READER_BETWEEN: [Round; 2] = [
+    Round {
+        lists: &[&BEHIND_READERS, &[]],
+        answer: Ok((&[], Some(100))),
+    },
+    Round {
+        lists: &[&BEHIND_READERS, &[ActOn(1, &[2])]],
+        answer: Ok((&[2, 4], Some(105))),
+    },
+];
+
+/// and behind it.
+const READER_BEFORE: [Round; 2] = [
+    Round {
+        lists: &[&BEHIND_READERS, &[ActOn(1, &[2])]],
+        answer: Ok((&[], Some(100))),
+    },
+    Round {
+        lists: &[&BEHIND_READERS, &[ActOn(1, &[2])]],
+        answer: Ok((&[1, 2, 4], Some(105))),
+    },
+];
+
+/// A batch that aborted left 105, transaction 2 puts 105, and transaction 3 adds 5: what an aborted batch left is no state that transaction 2
+/// could have left as it was.
+const STATE_OF_AN_ABORTED_BATCH: [Round; 3] = [
+    Round {
+        lists: &[
+            &[
+                Genesis(2, 100),
+                Complete(1, 105),
+                Prepare(2, 105),
+                Prepare(3, 110),
+            ],
+            &[Info(1), Act(3, 0)],
+        ],
+        answer: Ok((&[], Some(100))),
+    },
+    Round {
+        lists: &[
+            &[
+                Genesis(2, 100),
+                Complete(1, 105),
+                Prepare(2, 105),
+                Prepare(3, 110),
+                Act(2, 0),
+            ],
+            &[Info(1), Act(3, 0)],
+        ],
+        answer: Ok((&[], Some(100))),
+    },
+    Round {
+        lists: &[
+            &[
+                Genesis(2, 100),
+                Complete(1, 105),
+                Prepare(2, 105),
+                Prepare(3, 110),
+                Act(2, 0),
+            ],
+            &[Info(1), Act(3, 0)],
+        ],
+        answer: Ok((&[2, 3], Some(110))),
+    },
+];
+
+/// Transaction 4 leaves actor 0 as it was, whatever it did on actor 1: it does not hold back transaction 3, which comes behind it on
+/// actor 0 alone.
+const CHANGED_ANOTHER_ACTOR: [Round; 2] = [
+    Round {
+        lists: &[
+            &[
+                Begin(2, &[100, 0]),
+                PrepareOn(4, 0, 100),
+                PrepareOn(3, 0, 100),
+            ],
+            &[PrepareOn(2, 1, 5), PrepareOn(4, 1, 5), ActOn(3, &[0])],
+        ],
+        answer: Ok((&[], Some(100))),
+    },
+    Round {
+        lists: &[
+            &[
+                Begin(2, &[100, 0]),
+                PrepareOn(4, 0, 100),
+                PrepareOn(3, 0, 100),
+                ActOn(4, &[0, 1]),
+            ],
+            &[PrepareOn(2, 1, 5), PrepareOn(4, 1, 5), ActOn(3, &[0])],
+        ],
+        answer: Ok((&[3], Some(100))),
+    },
+];
+
+/// Transaction 2 leaves the checkpoint's state as it was.
+const AS_THE_CHECKPOINT_HAS_IT: [Round; 2] = [
+    Round {
+        lists: &[
+            &[
+                Genesis(2, 100),
+                Checkpoint(105),
+                Prepare(2, 105),
+                Prepare(3, 110),
+            ],
+            &[Act(3, 0)],
+        ],
+        answer: Ok((&[], Some(105))),
+    },
+    Round {
+        lists: &[
+            &[
+                Genesis(2, 100),
+                Checkpoint(105),
+                Prepare(2, 105),
+                Prepare(3, 110),
+                Act(2, 0),
+            ],
+            &[Act(3, 0)],
+        ],
+        answer: Ok((&[3], Some(110))),
+    },
+];
+
+/// Where no first state is known the first record is a change.
+const CHANGE_WITHOUT_GENESIS: [Round; 2] = [
+    Round {
+        lists: &[&[Prepare(2, 100), Prepare(3, 110)], &[Act(3, 0)]],
+        answer: Ok((&[], None)),
+    },
+    Round {
+        lists: &[&[Prepare(2, 100), Prepare(3, 110), Act(2, 0)], &[Act(3, 0)]],
+        answer: Ok((&[], None)),
+    },
+];
+
 #[test]
 fn rounds_answer_as_their_rows_say(rt: HostRuntime) -> Result<(), Fail> {
     let alloc = rt.alloc();
@@ -177,5 +338,24 @@ fn rounds_answer_as_their_rows_say(rt: HostRuntime) -> Result<(), Fail> {
     assert_eq!(rt; answers_otherwise(alloc, 1, &FROM_A_CHECKPOINT)?, None);
     assert_eq!(rt; answers_otherwise(alloc, 1, &WITHOUT_GENESIS)?, None);
     assert_eq!(rt; answers_otherwise(alloc, 1, &BAD_BEGINNINGS)?, None);
+    Ok(())
+}
+
+#[test]
+fn who_left_an_actor_as_it_was_holds_nobody_back(rt: HostRuntime) -> Result<(), Fail> {
+    let alloc = rt.alloc();
+    assert_eq!(rt; answers_otherwise(alloc, 2, &READER_NOT_YET)?, None);
+    assert_eq!(rt; answers_otherwise(alloc, 2, &READER_BETWEEN)?, None);
+    assert_eq!(rt; answers_otherwise(alloc, 2, &READER_BEFORE)?, None);
+    assert_eq!(rt;
+        answers_otherwise(alloc, 2, &STATE_OF_AN_ABORTED_BATCH)?,
+        None
+    );
+    assert_eq!(rt; answers_otherwise(alloc, 2, &CHANGED_ANOTHER_ACTOR)?, None);
+    assert_eq!(rt;
+        answers_otherwise(alloc, 2, &AS_THE_CHECKPOINT_HAS_IT)?,
+        None
+    );
+    assert_eq!(rt; answers_otherwise(alloc, 2, &CHANGE_WITHOUT_GENESIS)?, None);
     Ok(())
 }

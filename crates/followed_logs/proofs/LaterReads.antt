@@ -3,7 +3,9 @@ use Rattle.std.specs.Prelude.{◌≡◌, ℕ, ◌≤◌, true, false, Option, So
 use Rattle.std.specs.List.{AllByRecursion}
 use Rattle.std.proofs.Common.{sym, inl, inr}
 use Rattle.std.proofs.lemmas.Bool.{true≢false}
+use Rattle.snap_base.specs.declared.transactions.State.{State}
 use Rattle.protocol.specs.Fixed.{Opening}
+use Rattle.protocol.specs.Facts.{state_in}
 use Rattle.protocol.specs.Records.{LogRecord}
 use Rattle.protocol.specs.Parts.{OfBatch, OfAct}
 use Rattle.protocol_records.specs.Crash.{is_in, BatchIsWhole, ActIsWhole}
@@ -34,8 +36,8 @@ later_all xs r = record { moments = λ l i. no_earlier xs l i (r l); still = λ 
 
 -- ---- rounds that take nobody
 
-none_taken : (many : ℕ) (before now : ℕ → List LogRecord) → follow.MayTake many (λ y. false) before now (λ y. false)
-none_taken many before now = record { stay = λ y e. e; seen = λ y e n. absurd (true≢false (sym e)); rest_on = λ y z e n a i. absurd (true≢false (sym e)) }
+none_taken : (many : ℕ) (first : ℕ → State) (before now : ℕ → List LogRecord) → follow.MayTake many first (λ y. false) before now (λ y. false)
+none_taken many first before now = record { stay = λ y e. e; seen = λ y e n. absurd (true≢false (sym e)); rest_on = λ y z e n a i. absurd (true≢false (sym e)) }
 
 at_reading : {C : Type 0} {xs : List (CutRun C)} → RunsReading xs → RunsRound xs
 at_reading r = record { reading = r; members = λ y. false }
@@ -56,9 +58,9 @@ pub reads : {C : Type 0} → InEveryRunsRound C → (many : ℕ) (o : Opening) (
 unfolding at_reading
 reads law many o xs None now some same go l =
     let s = law many o xs (at_reading now ∷ at_reading (all_left xs) ∷ []) some same go
-    ((tt, none_taken many (λ i. []) (runs_read xs now)), ((later_all xs now, none_taken many (runs_read xs now) (runs_read xs (all_left xs))), tt)) in
+    ((tt, none_taken many (state_in o.states) (λ i. []) (runs_read xs now)), ((later_all xs now, none_taken many (state_in o.states) (runs_read xs now) (runs_read xs (all_left xs))), tt)) in
     reads_of many o xs (λ i. []) now s.0 s.1.0
 reads law many o xs (Some r) now some same go l =
     let s = law many o xs (at_reading r ∷ at_reading now ∷ at_reading (all_left xs) ∷ []) some same go
-    ((tt, none_taken many (λ i. []) (runs_read xs r)), ((l, none_taken many (runs_read xs r) (runs_read xs now)), ((later_all xs now, none_taken many (runs_read xs now) (runs_read xs (all_left xs))), tt))) in
+    ((tt, none_taken many (state_in o.states) (λ i. []) (runs_read xs r)), ((l, none_taken many (state_in o.states) (runs_read xs r) (runs_read xs now)), ((later_all xs now, none_taken many (state_in o.states) (runs_read xs now) (runs_read xs (all_left xs))), tt))) in
     reads_of many o xs (runs_read xs r) now s.1.0 s.1.1.0

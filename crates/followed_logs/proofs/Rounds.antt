@@ -6,6 +6,7 @@ use Rattle.std.proofs.lemmas.Bool.{true≢false}
 use Rattle.snap_base.specs.declared.transactions.State.{State}
 use Rattle.snap_base.proofs.Lists.{zip_length}
 use Rattle.protocol.specs.Fixed.{Opening}
+use Rattle.protocol.specs.Facts.{state_in}
 use Rattle.protocol.specs.Parts.{Who}
 use Rattle.protocol_records.specs.SeveralRuns.{CutRun}
 use Rattle.followed_runs.specs.Following as follow
@@ -59,7 +60,7 @@ rounds_of (y ∷ ys) = round_of y ∷ rounds_of ys
 module _ {C : Type 0} (many : ℕ) (o : Opening) (front : List Record) (xs : List (CutRun C)) (g : AreOnLogs many o front xs) where
   may_take : (f : Following) (before : Option (Finding xs)) (taken : Who → Bool) (y : FollowRound xs) → Knows many front xs f before taken
       → MayTake (taken_by f) (plain_lists f.before) (plain_lists (lists_found many front xs y.found)) (taken_by y.known)
-      → follow.MayTake many taken (runs_before xs (reading_of xs before)) (runs_read xs y.found.reading) (is_taken (taken_by y.known))
+      → follow.MayTake many (state_in o.states) taken (runs_before xs (reading_of xs before)) (runs_read xs y.found.reading) (is_taken (taken_by y.known))
   may_take f before taken y k m =
       let begun = plain_front many o.states y.found.is_begun in
       let only = front_only many o.states y.found.is_begun g.some_logs in
@@ -73,7 +74,7 @@ module _ {C : Type 0} (many : ℕ) (o : Opening) (front : List Record) (xs : Lis
       }
 
   go_on : (f : Following) (before : Option (Finding xs)) (taken : Who → Bool) (ys : List (FollowRound xs)) → Knows many front xs f before taken → GoOnFollowing many front xs f before ys
-      → GoOnRunsRounds many xs (reading_of xs before) taken (rounds_of ys)
+      → GoOnRunsRounds many (state_in o.states) xs (reading_of xs before) taken (rounds_of ys)
   unfolding round_of rounds_of
   go_on f before taken [] k h = tt
   go_on f before taken (y ∷ ys) k h = (

@@ -1,9 +1,10 @@
 -- What the lists of written records say, in the machine's words.
-use Rattle.std.specs.Prelude.{◌≡◌, refl, ℕ, zero, suc, ◌+◌, ◌≤◌, ◌<◌, ◌%◌, ◌==◌, Bool, true, false, ◌&&◌, if◌then◌else◌, List, [], ◌∷◌, ◌++◌, length, map, filter, slice_index_or, Contains}
+use Rattle.std.specs.Prelude.{◌≡◌, refl, ℕ, zero, suc, ◌+◌, ◌≤◌, ◌<◌, ◌%◌, ◌==◌, Bool, true, false, ◌&&◌, ◌⊎◌, if◌then◌else◌, Some, List, [], ◌∷◌, ◌++◌, length, map, filter, slice_get, slice_index_or, Contains}
 use Rattle.std.specs.List.{AllByRecursion, AllZip, enumerate_from}
 use Rattle.std.proofs.Common.{arith, sym, ap, subst, mod-lt, inl, inr, ◌∙◌}
-use Rattle.std.proofs.lemmas.Bool.{true≢false, or_cases, and_parts, eqb-true, eq-eqb}
+use Rattle.std.proofs.lemmas.Bool.{true≢false, or_cases, eqb-true, eq-eqb}
 use Rattle.snap_base.specs.declared.transactions.State.{State}
+use Rattle.snap_base.proofs.Lists.{all_filter, all_join, all_mid}
 use Rattle.protocol.specs.Facts.{state_in}
 use Rattle.protocol.specs.Parts.{Who, OfBatch, OfAct}
 use Rattle.protocol.specs.Records as machine
@@ -14,7 +15,7 @@ use Rattle.protocol_laws.proofs.machine.TrackLists.{is_who_true}
 use Rattle.protocol_records.specs.Telling.{told_states, names, last_one}
 use Rattle.protocol_records.specs.Crash.{is_in}
 use Rattle.followed_runs.specs.Following as follow
-use Rattle.followed_runs.specs.Following.{is_ahead}
+use Rattle.followed_runs.specs.Following.{ChangedAhead}
 use Rattle.txn_records.specs.declared.records.Record.{Record}
 use Rattle.txn_records.specs.declared.records.Record.TheVariants.{Genesis, BatchInfo, BatchComplete, BatchCommit, ActPrepare, ActCommit, BatchDone, ActDone, Checkpoint}
 use Rattle.txn_records.specs.declared.keys.Key.{Key}
@@ -22,11 +23,13 @@ use Rattle.txn_records.specs.declared.keys.Key.TheVariants as keys
 use Rattle.txn_records.specs.Records.{key}
 use Rattle.log_set.specs.Told.{bid_of, tid_of, told, all_told}
 use Rattle.recovery_laws.specs.Grown.{grown}
-use Rattle.recovery_laws.proofs.WrittenLists.{has_commit, commit_has, has_act, act_has, grown_length, grown_at}
-use Rattle.snap_recover.specs.Logs.{HasKey, log_of, states_in}
+use Rattle.recovery_laws.proofs.WrittenLists.{has_commit, commit_has, has_act, act_has, grown_length, grown_at, grown_genesis}
+use Rattle.snap_recover.specs.Logs.{HasKey, all_of, log_of, is_genesis, geneses, states_in}
+use Rattle.snap_recover.specs.Opening.{AreBegunWith}
 use Rattle.snap_recover.proofs.Growing.{has_right, has_cases}
-use Rattle.snap_recover.proofs.Lists.{contains_none, contains_cases, contains_here, contains_there, contains_right}
-use Rattle.snap_follow.specs.Followed.{HasCommit, Tells, TellsAhead, StandsAhead, CountsFor, IsFollowedState, AreFollowedStates}
+use Rattle.snap_recover.proofs.Lists.{contains_none, contains_cases}
+use Rattle.snap_follow.specs.Followed.{HasCommit, Tells, TellsOf, IsLeftBy, ChangesAhead, IsFirstState, StandsAhead, CountsFor, IsFollowedState, AreFollowedStates}
+use Rattle.snap_follow.proofs.Changes.{tells_one, one_told, left_more}
 use Rattle.followed_logs.specs.OnRecords.{key_of}
 use Rattle.followed_logs.proofs.Keys.{is_taken, taken_is, is_then_taken}
 
@@ -87,9 +90,6 @@ record TellsAt (a : ℕ) (y : Who) (rs : List Record) : Type 0 where
 later_at : (a : ℕ) (y : Who) (r : Record) (rs : List Record) → TellsAt a y rs → TellsAt a y (r ∷ rs)
 later_at a y r rs s = record { front = r ∷ s.front; own = s.own; behind = s.behind; splits = ap (λ z. r ∷ z) s.splits; is_own = s.is_own }
 
-later_ahead : (a : ℕ) (j k : Key) (r : Record) (rs : List Record) → TellsAhead a j k rs → TellsAhead a j k (r ∷ rs)
-later_ahead a j k r rs s = record { front = r ∷ s.front; own = s.own; behind = s.behind; splits = ap (λ z. r ∷ z) s.splits; is_own = s.is_own; ahead = (s.ahead.0, contains_there r s.ahead.0 s.front s.ahead.1, s.ahead.2) }
-
 named_at : (a : ℕ) (y : Who) (rs : List LogRecord) → names y (told_states a rs) ≡ true → TellsAt a y (all_told rs)
 named_at a y [] h = absurd (true≢false (sym h))
 named_at a y (machine.BatchInfo k xs ts ∷ rs) h = later_at a y (told (machine.BatchInfo k xs ts)) (all_told rs) (named_at a y rs h)
@@ -112,37 +112,121 @@ named_at a y (machine.ActPrepare t b st ∷ rs) h = by (b == a) refl h (named_at
     ]
     by false e h r = later_at a y (told (machine.ActPrepare t b st)) (all_told rs) (r h)
 
--- the first record is of the one ahead
-here_ahead : (a : ℕ) (z y : Who) (r : Record) (rs : List Record) → Tells a (key_of z) r → TellsAt a y rs → TellsAhead a (key_of z) (key_of y) (r ∷ rs)
-here_ahead a z y r rs t s = record { front = r ∷ s.front; own = s.own; behind = s.behind; splits = ap (λ w. r ∷ w) s.splits; is_own = s.is_own; ahead = (r, contains_here r s.front, t) }
+-- ---- what stands ahead, of those that count
 
-tells_ahead : (a : ℕ) (z y : Who) (rs : List LogRecord) → is_ahead z y (told_states a rs) ≡ true → TellsAhead a (key_of z) (key_of y) (all_told rs)
-tells_ahead a z y [] h = absurd (true≢false (sym h))
-tells_ahead a z y (machine.BatchInfo k xs ts ∷ rs) h = later_ahead a (key_of z) (key_of y) (told (machine.BatchInfo k xs ts)) (all_told rs) (tells_ahead a z y rs h)
-tells_ahead a z y (machine.BatchDone k vs ∷ rs) h = later_ahead a (key_of z) (key_of y) (told (machine.BatchDone k vs)) (all_told rs) (tells_ahead a z y rs h)
-tells_ahead a z y (machine.ActDone t m c v xs ∷ rs) h = later_ahead a (key_of z) (key_of y) (told (machine.ActDone t m c v xs)) (all_told rs) (tells_ahead a z y rs h)
-tells_ahead a z y (machine.BatchComplete k b st ∷ rs) h = by (b == a) refl h (tells_ahead a z y rs)
-  where
-    by : (v : Bool) → (b == a) ≡ v → is_ahead z y (if v then record { who = OfBatch k; state = st } ∷ told_states a rs else told_states a rs) ≡ true → (is_ahead z y (told_states a rs) ≡ true → TellsAhead a (key_of z) (key_of y) (all_told rs)) → TellsAhead a (key_of z) (key_of y) (told (machine.BatchComplete k b st) ∷ all_told rs)
-    by true e h r = elim (or_cases (is_who z (OfBatch k) && names y (told_states a rs)) (is_ahead z y (told_states a rs)) h) [
-      | inl q ↦ let p = and_parts (is_who z (OfBatch k)) (names y (told_states a rs)) q in here_ahead a z y (told (machine.BatchComplete k b st)) (all_told rs) (eqb-true b a e, ap key_of (is_who_true z (OfBatch k) p.0)) (named_at a y rs p.1)
-      | inr q ↦ later_ahead a (key_of z) (key_of y) (told (machine.BatchComplete k b st)) (all_told rs) (r q)
-    ]
-    by false e h r = later_ahead a (key_of z) (key_of y) (told (machine.BatchComplete k b st)) (all_told rs) (r h)
-tells_ahead a z y (machine.ActPrepare t b st ∷ rs) h = by (b == a) refl h (tells_ahead a z y rs)
-  where
-    by : (v : Bool) → (b == a) ≡ v → is_ahead z y (if v then record { who = OfAct t; state = st } ∷ told_states a rs else told_states a rs) ≡ true → (is_ahead z y (told_states a rs) ≡ true → TellsAhead a (key_of z) (key_of y) (all_told rs)) → TellsAhead a (key_of z) (key_of y) (told (machine.ActPrepare t b st) ∷ all_told rs)
-    by true e h r = elim (or_cases (is_who z (OfAct t) && names y (told_states a rs)) (is_ahead z y (told_states a rs)) h) [
-      | inl q ↦ let p = and_parts (is_who z (OfAct t)) (names y (told_states a rs)) q in here_ahead a z y (told (machine.ActPrepare t b st)) (all_told rs) (eqb-true b a e, ap key_of (is_who_true z (OfAct t) p.0)) (named_at a y rs p.1)
-      | inr q ↦ later_ahead a (key_of z) (key_of y) (told (machine.ActPrepare t b st)) (all_told rs) (r q)
-    ]
-    by false e h r = later_ahead a (key_of z) (key_of y) (told (machine.ActPrepare t b st)) (all_told rs) (r h)
+-- behind these records the actor has this state and no other one
+abbrev Leaves : (Key → Type 0) → (ℕ → State → Type 0) → ℕ → List Record → State → Type 0
+Leaves C B a before s = (t : State) → IsLeftBy C B a before t → t ≡ s
 
-behind_some : (a : ℕ) (j k : Key) (xs rs : List Record) → TellsAhead a j k rs → TellsAhead a j k (xs ++ rs)
-behind_some a j k xs rs s = record { front = xs ++ s.front; own = s.own; behind = s.behind; splits = ap (λ z. xs ++ z) s.splits ∙ sym (join_assoc xs s.front (s.own ∷ s.behind)); is_own = s.is_own; ahead = (s.ahead.0, contains_right xs s.front s.ahead.0 s.ahead.1, s.ahead.2) }
+module _ (C : Key → Type 0) (B : ℕ → State → Type 0) (counts : Who → Bool) (into : (w : Who) → counts w ≡ true → C (key_of w)) (out : (w : Who) → C (key_of w) → counts w ≡ true) where
+  -- a record of no state of the actor
+  leaves_quiet : (a : ℕ) (before : List Record) (s : State) (r : Record) → ((k : Key) → ¬ Tells a k r) → Leaves C B a before s → Leaves C B a (before ++ r ∷ []) s
+  leaves_quiet a before s r n h t l = elim ((left_more C B a before r t).0 l) [ inl p ↦ absurd (n p.1.0 p.1.2) | inr p ↦ h t p.1 ]
 
-pub ahead_written : (many : ℕ) (first : List State) (begun : List (List Record)) (logs : ℕ → List LogRecord) (z y : Who) → 1 ≤ many → OnlyGenesis many first begun → follow.StandsAhead many logs z y → StandsAhead (grown begun logs) (key_of z) (key_of y)
-ahead_written many first begun logs z y some g s = (s.0, subst (TellsAhead s.0 (key_of z) (key_of y)) (sym (log_is many first begun logs s.0 some g)) (behind_some s.0 (key_of z) (key_of y) (log_of begun s.0) (all_told (logs (s.0 % many))) (tells_ahead s.0 z y (logs (s.0 % many)) s.1)))
+  -- a record of one
+  leaves_told : (a : ℕ) (before : List Record) (s st : State) (r : Record) (w : Who) → Tells a (key_of w) r → states_in r ≡ st ∷ [] → Leaves C B a before s → Leaves C B a (before ++ r ∷ []) (if counts w then st else s)
+  leaves_told a before s st r w own tells h t l = by (counts w) refl ((left_more C B a before r t).0 l)
+    where
+      by : (v : Bool) → counts w ≡ v → ((states_in r ≡ t ∷ []) × TellsOf C a r) ⊎ (¬ TellsOf C a r × IsLeftBy C B a before t) → t ≡ (if v then st else s)
+      by true e (inl p) = one_told r t st p.0 tells
+      by true e (inr p) = absurd (p.0 (key_of w, into w e, own))
+      by false e (inl p) = absurd (true≢false (sym (out w (subst C (tells_one a a p.1.0 (key_of w) r p.1.2 own).1 p.1.1)) ∙ e))
+      by false e (inr p) = h t p.1
+
+  -- the record changes the actor, and one of the other stands behind it
+  here_ahead : (a : ℕ) (z y : Who) (before : List Record) (s st : State) (r : Record) (rs : List Record) → Leaves C B a before s → Tells a (key_of z) r → states_in r ≡ st ∷ [] → ¬ (st ≡ s) → TellsAt a y rs
+      → ChangesAhead C B a (key_of z) (key_of y) (before ++ r ∷ rs)
+  here_ahead a z y before s st r rs h own tells other at = record {
+    front = before ++ r ∷ at.front;
+    own = at.own;
+    behind = at.behind;
+    splits = ap (λ q. before ++ r ∷ q) at.splits ∙ sym (join_assoc before (r ∷ at.front) (at.own ∷ at.behind));
+    is_own = at.is_own;
+    ahead = record {
+      front = before;
+      own = r;
+      behind = at.front;
+      splits = refl;
+      is_own = own;
+      another = λ t l e. other (one_told r st t tells e ∙ h t l);
+    };
+  }
+
+  -- the change is behind this record
+  ahead_later : (a : ℕ) (z y : Who) (before : List Record) (s : State) (r : LogRecord) (rs : List LogRecord)
+      → ((front : List Record) (t : State) → Leaves C B a front t → ChangedAhead counts t z y (told_states a rs) → ChangesAhead C B a (key_of z) (key_of y) (front ++ all_told rs))
+      → Leaves C B a (before ++ told r ∷ []) s → ChangedAhead counts s z y (told_states a rs) → ChangesAhead C B a (key_of z) (key_of y) (before ++ told r ∷ all_told rs)
+  ahead_later a z y before s r rs more h c = subst (ChangesAhead C B a (key_of z) (key_of y)) (join_assoc before (told r ∷ []) (all_told rs)) (more (before ++ told r ∷ []) s h c)
+
+  -- this record tells a state of the actor
+  ahead_told : (a : ℕ) (z y w : Who) (before : List Record) (s st : State) (r : LogRecord) (rs : List LogRecord)
+      → ((front : List Record) (t : State) → Leaves C B a front t → ChangedAhead counts t z y (told_states a rs) → ChangesAhead C B a (key_of z) (key_of y) (front ++ all_told rs))
+      → Tells a (key_of w) (told r) → states_in (told r) ≡ st ∷ [] → Leaves C B a before s → ChangedAhead counts s z y (record { who = w; state = st } ∷ told_states a rs)
+      → ChangesAhead C B a (key_of z) (key_of y) (before ++ told r ∷ all_told rs)
+  ahead_told a z y w before s st r rs more own tells h (inl c) =
+      here_ahead a z y before s st (told r) (all_told rs) h (subst (λ k. Tells a k (told r)) (sym (ap key_of (is_who_true z w c.0))) own) tells c.1 (named_at a y rs c.2)
+  ahead_told a z y w before s st r rs more own tells h (inr c) =
+      ahead_later a z y before (if counts w then st else s) r rs more (leaves_told a before s st (told r) w own tells h) c
+
+  tells_ahead : (a : ℕ) (z y : Who) (rs : List LogRecord) (before : List Record) (s : State) → Leaves C B a before s → ChangedAhead counts s z y (told_states a rs) → ChangesAhead C B a (key_of z) (key_of y) (before ++ all_told rs)
+  tells_ahead a z y [] before s h c = absurd c
+  tells_ahead a z y (machine.BatchInfo k xs ts ∷ rs) before s h c =
+      ahead_later a z y before s (machine.BatchInfo k xs ts) rs (tells_ahead a z y rs) (leaves_quiet a before s (told (machine.BatchInfo k xs ts)) (λ j t. t) h) c
+  tells_ahead a z y (machine.BatchDone k vs ∷ rs) before s h c =
+      ahead_later a z y before s (machine.BatchDone k vs) rs (tells_ahead a z y rs) (leaves_quiet a before s (told (machine.BatchDone k vs)) (λ j t. t) h) c
+  tells_ahead a z y (machine.ActDone t m v u xs ∷ rs) before s h c =
+      ahead_later a z y before s (machine.ActDone t m v u xs) rs (tells_ahead a z y rs) (leaves_quiet a before s (told (machine.ActDone t m v u xs)) (λ j q. q) h) c
+  tells_ahead a z y (machine.BatchComplete k b st ∷ rs) before s h c = by (b == a) refl c (tells_ahead a z y rs)
+    where
+      by : (v : Bool) → (b == a) ≡ v → ChangedAhead counts s z y (if v then record { who = OfBatch k; state = st } ∷ told_states a rs else told_states a rs)
+          → ((front : List Record) (t : State) → Leaves C B a front t → ChangedAhead counts t z y (told_states a rs) → ChangesAhead C B a (key_of z) (key_of y) (front ++ all_told rs))
+          → ChangesAhead C B a (key_of z) (key_of y) (before ++ told (machine.BatchComplete k b st) ∷ all_told rs)
+      by true e d more = ahead_told a z y (OfBatch k) before s st (machine.BatchComplete k b st) rs more (eqb-true b a e, refl) refl h d
+      by false e d more = ahead_later a z y before s (machine.BatchComplete k b st) rs more (leaves_quiet a before s (told (machine.BatchComplete k b st)) (λ j t. true≢false (sym (eq-eqb b a t.0) ∙ e)) h) d
+  tells_ahead a z y (machine.ActPrepare t b st ∷ rs) before s h c = by (b == a) refl c (tells_ahead a z y rs)
+    where
+      by : (v : Bool) → (b == a) ≡ v → ChangedAhead counts s z y (if v then record { who = OfAct t; state = st } ∷ told_states a rs else told_states a rs)
+          → ((front : List Record) (u : State) → Leaves C B a front u → ChangedAhead counts u z y (told_states a rs) → ChangesAhead C B a (key_of z) (key_of y) (front ++ all_told rs))
+          → ChangesAhead C B a (key_of z) (key_of y) (before ++ told (machine.ActPrepare t b st) ∷ all_told rs)
+      by true e d more = ahead_told a z y (OfAct t) before s st (machine.ActPrepare t b st) rs more (eqb-true b a e, refl) refl h d
+      by false e d more = ahead_later a z y before s (machine.ActPrepare t b st) rs more (leaves_quiet a before s (told (machine.ActPrepare t b st)) (λ j q. true≢false (sym (eq-eqb b a q.0) ∙ e)) h) d
+
+-- ---- with which states the lists begin
+
+state_at : (first : List State) (a : ℕ) (t : State) → slice_get first a ≡ Some t → t ≡ state_in first a
+state_at [] a t e = absurd (cc e)
+state_at (x ∷ xs) zero t e = let same : x ≡ t = cc e in sym same
+state_at (x ∷ xs) (suc a) t e = state_at xs a t e
+
+all_genesis : (first : List State) (lists : List (List Record)) → AllByRecursion (AllByRecursion (IsGenesisOf first)) lists → AllByRecursion (IsGenesisOf first) (all_of lists)
+all_genesis first [] h = tt
+all_genesis first (rs ∷ lists) h = all_join (IsGenesisOf first) rs (all_of lists) h.0 (all_genesis first lists h.1)
+
+-- with these
+first_is : (many : ℕ) (first states : List State) (begun : List (List Record)) (logs : ℕ → List LogRecord) → OnlyGenesis many first begun → AreBegunWith (grown begun logs) states → states ≡ first
+first_is many first states begun logs g b =
+    let one : geneses begun ≡ Genesis (length (grown begun logs)) states ∷ [] = sym (grown_genesis 0 begun logs) ∙ b.one in
+    let head = (subst (AllByRecursion (IsGenesisOf first)) one (all_filter (IsGenesisOf first) is_genesis (all_of begun) (all_genesis first begun g.each))).0 in
+    let same : Genesis (length (grown begun logs)) states ≡ Genesis head.0 first = head.1 in
+    cc same
+
+genesis_tells : (first : List State) (a : ℕ) (k : Key) (r : Record) → IsGenesisOf first r → ¬ Tells a k r
+genesis_tells first a k r h t = subst (Tells a k) h.1 t
+
+first_leaves : (many : ℕ) (first : List State) (begun : List (List Record)) (logs : ℕ → List LogRecord) (a : ℕ) → OnlyGenesis many first begun → Leaves (HasCommit (grown begun logs)) (IsFirstState (grown begun logs)) a (log_of begun a) (state_in first a)
+first_leaves many first begun logs a g t (inl (r, told, (front, behind, e, p, quiet))) =
+    absurd (genesis_tells first a p.0 r (all_mid (IsGenesisOf first) r front behind (subst (AllByRecursion (IsGenesisOf first)) e (only_log many first begun a g))) p.2)
+first_leaves many first begun logs a g t (inr (quiet, (states, b, at))) =
+    state_at first a t (subst (λ z. slice_get z a ≡ Some t) (first_is many first states begun logs g b) at)
+
+pub ahead_written : (many : ℕ) (first : List State) (begun : List (List Record)) (logs : ℕ → List LogRecord) (z y : Who) → 1 ≤ many → OnlyGenesis many first begun → follow.StandsAhead many (state_in first) logs z y
+    → StandsAhead (grown begun logs) (key_of z) (key_of y)
+ahead_written many first begun logs z y some g s = (
+  s.0,
+  subst (ChangesAhead (HasCommit (grown begun logs)) (IsFirstState (grown begun logs)) s.0 (key_of z) (key_of y)) (sym (log_is many first begun logs s.0 some g))
+      (tells_ahead (HasCommit (grown begun logs)) (IsFirstState (grown begun logs)) (is_in many logs) (λ w i. in_commit many first begun logs w some g i) (λ w h. commit_in many first begun logs w some g h)
+      s.0 z y (logs (s.0 % many)) (log_of begun s.0) (state_in first s.0) (first_leaves many first begun logs s.0 g) s.1),
+)
 
 -- ---- states
 

@@ -18,16 +18,13 @@ use Rattle.protocol.specs.History.{Done, History, no_history, history, grown}
 use Rattle.protocol_laws.specs.Commits.{is_kept, reads_who}
 use Rattle.protocol_laws.proofs.first.Lists.{all_join, any_front, weaker, both_all}
 use Rattle.protocol_laws.proofs.machine.TrackLists.{is_who_true, is_who_refl}
-use Rattle.protocol_laws.proofs.machine.Good as whole
 use Rattle.protocol_laws.proofs.machine.Good.{Given}
 use Rattle.protocol_laws.proofs.machine.AllGood.{AllGood, along_good}
-use Rattle.protocol_laws.proofs.machine.AllGood as all
 use Rattle.protocol_theorems.proofs.order.LastLaw as last
-use Rattle.protocol_records.specs.Logged.{is_sure, is_on, came_valued, came_rival, IsThere, AllThere}
+use Rattle.protocol_records.specs.Logged.{is_sure, came_valued, came_rival, IsThere, AllThere}
 use Rattle.protocol_records.specs.Telling.{One, told_states, names, last_one, ToldRead, NoneLater, RecoversEachActor, ToldReads, is_uncommitted_writer, AllNoneLater}
 use Rattle.protocol_records.proofs.crash.CrashParts.{logs_kept, logs_opened, no_records}
 use Rattle.protocol_records.proofs.crash.Durable.{any_back, sure_stays}
-use Rattle.protocol_records.proofs.crash.OnLong.{on_stays}
 use Rattle.protocol_records.proofs.crash.ReadersAside.{reads_told, none_later_kept}
 use Rattle.protocol_records.proofs.crash.RecoverLists.{kept_end}
 use Rattle.protocol_records.proofs.crash.RecoversKept.{ToldStep, told_step, recovers_kept, first_of}
@@ -118,7 +115,7 @@ tell_more : (kept readers : List Who) (s : State) (os os' : List One) → ToldSt
 tell_more kept readers s os os' (inl e) h = subst (ReadersTell kept readers s) (sym e) h
 tell_more kept readers s os os' (inr n) h = subst (ReadersTell kept readers s) (sym n.1) (tell_one kept readers s os n.0 n.3 h)
 
-kept_other : (u y : Who) (kept : List Who) → is_who u y ≡ false → is_kept y (kept ++ u ∷ []) ≡ is_kept y kept
+pub kept_other : (u y : Who) (kept : List Who) → is_who u y ≡ false → is_kept y (kept ++ u ∷ []) ≡ is_kept y kept
 kept_other u y [] e = rw e refl
 kept_other u y (z ∷ zs) e = ap (λ v. is_who z y || v) (kept_other u y zs e)
 
@@ -201,27 +198,6 @@ done_failed a os ds es n h = done_join a os ds es (each ds) h (own es n)
     own [] n = tt
     own (d ∷ ds) n = (weaker (λ e. is_value e.result ≡ false) (λ e. came_valued a d ≡ true → came_rival a d e ≡ true → is_ahead d.who e.who os ≡ true) ds (λ e i p q. absurd (no_rival d e i q)) n.1, own ds n.1)
 
--- ---- in the order of commits, of two that are on the actor the record of the first one is ahead
-
-abbrev pub KeptAheadOn : (Who → Bool) → List One → List Who → Type 0
-KeptAheadOn on os [] = ⊤
-KeptAheadOn on os (y ∷ ys) = AllByRecursion (λ z. on y ≡ true → on z ≡ true → is_ahead y z os ≡ true) ys × KeptAheadOn on os ys
-
-all_kept : {P : Who → Type 0} (ys : List Who) → ((y : Who) → is_kept y ys ≡ true → P y) → AllByRecursion P ys
-all_kept [] k = tt
-all_kept (y ∷ ys) k = (k y (or_left (is_who y y) _ (is_who_refl y)), all_kept ys (λ z i. k z (or_right (is_who y z) _ i)))
-
-order_more : (on on' : Who → Bool) (os os' : List One) (kept ys : List Who) → ((y : Who) → is_kept y kept ≡ true → on' y ≡ true → on y ≡ true) → ((y z : Who) → is_ahead y z os ≡ true → is_ahead y z os' ≡ true) → ((y : Who) → is_kept y ys ≡ true → is_kept y kept ≡ true) → KeptAheadOn on os ys → KeptAheadOn on' os' ys
-order_more on on' os os' kept [] k m i h = tt
-order_more on on' os os' kept (y ∷ ys) k m i h = (
-  both_all (λ z. is_kept z kept ≡ true) (λ z. on y ≡ true → on z ≡ true → is_ahead y z os ≡ true) (λ z. on' y ≡ true → on' z ≡ true → is_ahead y z os' ≡ true) ys (λ z kz f p q. m y z (f (k y (i y (or_left (is_who y y) _ (is_who_refl y))) p) (k z kz q))) (all_kept ys (λ z e. i z (or_right (is_who y z) _ e))) h.0,
-  order_more on on' os os' kept ys k m (λ z e. i z (or_right (is_who y z) _ e)) h.1,
-)
-
-order_end : (on : Who → Bool) (os : List One) (ys : List Who) (u : Who) → ((y : Who) → is_kept y ys ≡ true → on y ≡ true → on u ≡ true → is_ahead y u os ≡ true) → KeptAheadOn on os ys → KeptAheadOn on os (ys ++ u ∷ [])
-order_end on os [] u k h = (tt, tt)
-order_end on os (y ∷ ys) u k h = (all_join (λ z. on y ≡ true → on z ≡ true → is_ahead y z os ≡ true) ys (u ∷ []) h.0 (k y (or_left (is_who y y) _ (is_who_refl y)), tt), order_end on os ys u (λ z e. k z (or_right (is_who y z) _ e)) h.1)
-
 -- ---- all of it, along a run
 
 pub record InOrder {C : Type 0} (w : Fixed C) (Of : Tx → C → Type 0) (finish : C → List State → Alone) (s : Machine C) (h : History) : Type 0 where
@@ -231,8 +207,6 @@ pub record InOrder {C : Type 0} (w : Fixed C) (Of : Tx → C → Type 0) (finish
   pub came : (a : ℕ) → AllByRecursion (λ d. came_valued a d ≡ true → names d.who (told_at w s a) ≡ true) h.committed
   pub done : AllByRecursion (λ d. is_value d.result ≡ true → in_either h.kept h.kept_readers d.who ≡ true) h.committed
   pub done_ahead : (a : ℕ) → DoneAhead a (told_at w s a) h.committed
-  pub kept_ahead : (a : ℕ) → KeptAheadOn (λ y. is_on y (h.long a)) (told_at w s a) h.kept
-  pub named : (a : ℕ) (y : Who) → is_kept y h.kept ≡ true → is_on y (h.long a) ≡ true → names y (told_at w s a) ≡ true
 
 known_kept : {C : Type 0} (w : Fixed C) (Of : Tx → C → Type 0) (finish : C → List State → Alone) (e : Event) (s : Machine C) (h : History) → Given w Of finish → IsAllowed w e s → AllGood w Of finish s h → Known w Of finish s h → Known w Of finish (after w e s) (grown w e s h)
 known_kept {C} w Of finish e s h v ok g b = record {
@@ -281,16 +255,10 @@ nobody_kept {C} w Of finish e s h v ok g i n = record {
       (subst (AllByRecursion (λ d. is_value d.result ≡ true → in_either h.kept h.kept_readers d.who ≡ true)) (sym n.done) (all_join (λ d. is_value d.result ≡ true → in_either h.kept h.kept_readers d.who ≡ true) h.committed n.ds i.done
       (weaker (λ d. is_value d.result ≡ false) (λ d. is_value d.result ≡ true → in_either h.kept h.kept_readers d.who ≡ true) n.ds (λ d k q. absurd (true≢false (sym q ∙ k))) n.none))));
   done_ahead = λ a. subst (DoneAhead a (told_at w (after w e s) a)) (sym n.done) (done_failed a (told_at w (after w e s) a) h.committed n.ds n.none (done_more a (told_at w s a) (told_at w (after w e s) a) h.committed (λ y z q. grows h.kept h.kept_readers y z (told_at w s a) (told_at w (after w e s) a) (told a) q) (i.done_ahead a)));
-  kept_ahead = λ a. subst (KeptAheadOn (λ y. is_on y ((grown w e s h).long a)) (told_at w (after w e s) a)) (sym n.kept)
-      (order_more (λ y. is_on y (h.long a)) (λ y. is_on y ((grown w e s h).long a)) (told_at w s a) (told_at w (after w e s) a) h.kept h.kept (λ y k q. sym (on_same a y k) ∙ q) (λ y z q. grows h.kept h.kept_readers y z (told_at w s a) (told_at w (after w e s) a) (told a) q) (λ y k. k) (i.kept_ahead a));
-  named = λ a y k o. let ky = subst (λ l. is_kept y l ≡ true) n.kept k in named_more h.kept h.kept_readers y (told_at w s a) (told_at w (after w e s) a) (told a) (i.named a y ky (sym (on_same a y ky) ∙ o));
 }
   where
     told : (a : ℕ) → ToldStep h.kept h.kept_readers (told_at w s a) (told_at w (after w e s) a)
     told a = told_step w Of finish e s h a ok g i.known.logs.acts i.known.logs.stand
-
-    on_same : (a : ℕ) (y : Who) → is_kept y h.kept ≡ true → is_on y ((grown w e s h).long a) ≡ is_on y (h.long a)
-    on_same a y k = on_stays w e s h a y (whole.for_chain w Of finish e s h v ok (all.owes w Of finish e s h v ok g) g.good) g.good.committed k
 
 -- what is so of those that committed before, and of the one that does now
 came_more : {C : Type 0} (w : Fixed C) (e : Event) (s : Machine C) (h : History) (u : Who) (a : ℕ) → OneMore w e s h u → AllByRecursion (λ d. came_valued a d ≡ true → names d.who (told_at w s a) ≡ true) h.committed → AllByRecursion (λ d. came_valued a d ≡ true → names d.who (told_at w (after w e s) a) ≡ true) (grown w e s h).committed
@@ -325,9 +293,6 @@ writes_kept {C} w Of finish e s h u v ok g i n = record {
   done_ahead = λ a. subst (λ os. DoneAhead a os (grown w e s h).committed) (sym (n.one.told a)) (subst (DoneAhead a (told_at w s a)) (sym n.one.done) (done_join a (told_at w s a) h.committed n.one.ds
       (new_pairs w e s h u a n.one (both_all (λ d. came_valued a d ≡ true → names d.who (told_at w s a) ≡ true) (λ d. is_value d.result ≡ true → in_either h.kept h.kept_readers d.who ≡ true) _ h.committed (λ d p q. (p, (λ x c r j y. n.not_ahead a d.who (q (and_parts (is_some (d.views a)) (is_value d.result) c).1) y))) (i.came a) i.done))
       (i.done_ahead a) (done_own a u (told_at w s a) n.one.ds n.one.own)));
-  kept_ahead = λ a. subst (KeptAheadOn (λ y. is_on y ((grown w e s h).long a)) (told_at w (after w e s) a)) (sym n.kept) (subst (λ l. KeptAheadOn (λ y. is_on y l) (told_at w (after w e s) a) (h.kept ++ u ∷ [])) (sym (n.one.long a)) (subst (λ os. KeptAheadOn (λ y. is_on y (h.long a)) os (h.kept ++ u ∷ [])) (sym (n.one.told a))
-      (order_end (λ y. is_on y (h.long a)) (told_at w s a) h.kept u (λ y k p q. ahead a y k p q) (i.kept_ahead a))));
-  named = λ a y k o. ap (names y) (n.one.told a) ∙ own a y (kept_end u y h.kept (subst (λ l. is_kept y l ≡ true) n.kept k)) (subst (λ l. is_on y l ≡ true) (n.one.long a) o);
 }
   where
     self_kept : is_kept u (h.kept ++ u ∷ []) ≡ true
@@ -335,13 +300,6 @@ writes_kept {C} w Of finish e s h u v ok g i n = record {
 
     more : (y : Who) → in_either h.kept h.kept_readers y ≡ true → in_either (h.kept ++ u ∷ []) h.kept_readers y ≡ true
     more y q = elim (or_cases (is_kept y h.kept) (is_kept y h.kept_readers) q) [ inl r ↦ or_left (is_kept y (h.kept ++ u ∷ [])) _ (any_front (λ z. is_who z y) h.kept (u ∷ []) r) | inr r ↦ or_right (is_kept y (h.kept ++ u ∷ [])) _ r ]
-
-    ahead : (a : ℕ) (y : Who) → is_kept y h.kept ≡ true → is_on y (h.long a) ≡ true → is_on u (h.long a) ≡ true → is_ahead y u (told_at w s a) ≡ true
-    ahead a y k p q = elim (one_ahead y u (told_at w s a) (false_from_ne_true (is_who y u) (λ r. true≢false (sym k ∙ (ap (λ z. is_kept z h.kept) (is_who_true y u r) ∙ n.one.fresh)))) (i.named a y k p) (n.has_record a q)) [ inl r ↦ r | inr r ↦ absurd (n.not_ahead a y (or_left (is_kept y h.kept) _ k) r) ]
-
-    own : (a : ℕ) (y : Who) → (is_kept y h.kept ≡ true) ⊎ (is_who u y ≡ true) → is_on y (h.long a) ≡ true → names y (told_at w s a) ≡ true
-    own a y (inl k) o = i.named a y k o
-    own a y (inr k) o = subst (λ z. names z (told_at w s a) ≡ true) (is_who_true u y k) (n.has_record a (subst (λ z. is_on z (h.long a) ≡ true) (sym (is_who_true u y k)) o))
 
 -- one more that only reads
 reads_kept : {C : Type 0} (w : Fixed C) (Of : Tx → C → Type 0) (finish : C → List State → Alone) (e : Event) (s : Machine C) (h : History) (u : Who) → Given w Of finish → IsAllowed w e s → AllGood w Of finish s h → InOrder w Of finish s h → Reads w e s h u → InOrder w Of finish (after w e s) (grown w e s h)
@@ -362,8 +320,6 @@ reads_kept {C} w Of finish e s h u v ok g i n = record {
       (weaker (λ d. d.who ≡ u) (λ d. is_value d.result ≡ true → in_either h.kept (h.kept_readers ++ u ∷ []) d.who ≡ true) n.one.ds (λ d j q. or_right (is_kept d.who h.kept) _ (subst (λ y. is_kept y (h.kept_readers ++ u ∷ []) ≡ true) (sym j) self_kept)) n.one.own))));
   done_ahead = λ a. subst (λ os. DoneAhead a os (grown w e s h).committed) (sym (n.one.told a)) (subst (DoneAhead a (told_at w s a)) (sym n.one.done) (done_join a (told_at w s a) h.committed n.one.ds (rivals a)
       (i.done_ahead a) (done_own a u (told_at w s a) n.one.ds n.one.own)));
-  kept_ahead = λ a. subst (KeptAheadOn (λ y. is_on y ((grown w e s h).long a)) (told_at w (after w e s) a)) (sym n.kept) (subst (λ l. KeptAheadOn (λ y. is_on y l) (told_at w (after w e s) a) h.kept) (sym (n.one.long a)) (subst (λ os. KeptAheadOn (λ y. is_on y (h.long a)) os h.kept) (sym (n.one.told a)) (i.kept_ahead a)));
-  named = λ a y k o. ap (names y) (n.one.told a) ∙ i.named a y (subst (λ l. is_kept y l ≡ true) n.kept k) (subst (λ l. is_on y l ≡ true) (n.one.long a) o);
 }
   where
     self_kept : is_kept u (h.kept_readers ++ u ∷ []) ≡ true
@@ -392,7 +348,7 @@ order_kept w Of finish e s h v ok g i = elim (commits_now w Of finish e s h v ok
   | inr n ↦ elim n [ inl m ↦ writes_kept w Of finish e s h m.0 v ok g i m.1 | inr m ↦ reads_kept w Of finish e s h m.0 v ok g i m.1 ]
 ]
 
-order_opened : {C : Type 0} (w : Fixed C) (Of : Tx → C → Type 0) (finish : C → List State → Alone) → Given w Of finish → InOrder w Of finish (opening w) no_history
+pub order_opened : {C : Type 0} (w : Fixed C) (Of : Tx → C → Type 0) (finish : C → List State → Alone) → Given w Of finish → InOrder w Of finish (opening w) no_history
 unfolding RecoversEachActor ToldReads AllNoneLater
 order_opened {C} w Of finish v = record {
   known = record {
@@ -409,8 +365,6 @@ order_opened {C} w Of finish v = record {
   came = λ a. tt;
   done = tt;
   done_ahead = λ a. tt;
-  kept_ahead = λ a. tt;
-  named = λ a y k o. absurd (true≢false (sym k));
 }
   where
     empty : (a : ℕ) → told_at w (opening w) a ≡ []

@@ -83,7 +83,7 @@ named_completed k a rs n = elim (cases_Bool (list_any (is_complete k a) rs)) [
     none [] h = refl
     none (o ∷ os) h = rw (h.0, none os h.1) refl
 
-some_batch : (o : Option Batch) (xs : List ℕ) → actors_of_batch o ≡ Some xs → (b : Batch) × (o ≡ Some b)
+pub some_batch : (o : Option Batch) (xs : List ℕ) → actors_of_batch o ≡ Some xs → (b : Batch) × (o ≡ Some b)
 some_batch None xs e = absurd (cc e)
 some_batch (Some b) xs e = (b, refl)
 

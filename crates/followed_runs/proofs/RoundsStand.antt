@@ -1,18 +1,18 @@
--- What a follower takes, round by round, is seen in what it reads, and closed under who has a record ahead; so it is serial, and tells
--- the states.
+-- What a follower takes, round by round, is seen in what it reads, and closed under who changed an actor ahead; so it is serial, and
+-- tells the states.
 use Rattle.std.specs.Prelude.{◌≡◌, refl, ℕ, zero, suc, ◌%◌, Bool, true, false, ◌&&◌, ◌||◌, if◌then◌else◌, Option, Some, None, List, [], ◌∷◌, ◌++◌, length, filter, take}
 use Rattle.std.specs.List.{list_any}
 use Rattle.std.proofs.Common.{arith, sym, ap, subst, inl, inr, ◌∙◌}
 use Rattle.std.proofs.lemmas.List.{append-nil}
-use Rattle.std.proofs.lemmas.Bool.{true≢false, or_left, cases_Bool, false_from_ne_true, or_parts}
+use Rattle.std.proofs.lemmas.Bool.{true≢false, or_left, or_right, cases_Bool, false_from_ne_true, or_parts}
 use Rattle.snap_base.specs.declared.transactions.Tx.{Tx}
 use Rattle.snap_base.specs.declared.transactions.State.{State}
-use Rattle.protocol.specs.Facts.{Alone}
+use Rattle.protocol.specs.Facts.{Alone, state_in}
 use Rattle.protocol.specs.Fixed.{Fixed, IsText}
 use Rattle.protocol.specs.Records.{LogRecord, is_commit, is_act_commit}
 use Rattle.protocol.specs.Parts.{Who, OfBatch, OfAct}
 use Rattle.protocol.specs.Events.{Event}
-use Rattle.protocol.specs.Words.{is_who, is_value}
+use Rattle.protocol.specs.Words.{is_who}
 use Rattle.protocol.specs.Effects.{log_at}
 use Rattle.protocol.specs.Runs.{IsRun, reached}
 use Rattle.protocol.specs.History.{Done, history}
@@ -20,43 +20,44 @@ use Rattle.protocol.specs.Rests.{IsRest, IsTxIn, HasFacts}
 use Rattle.protocol_laws.specs.Commits.{is_kept, last_state}
 use Rattle.protocol_laws.proofs.first.Lists.{filter_join}
 use Rattle.protocol_laws.proofs.machine.TrackLists.{is_who_true, is_who_refl}
-use Rattle.protocol_laws.proofs.machine.CommitsKept.{Committed}
 use Rattle.protocol_laws.proofs.machine.Good.{Given}
-use Rattle.protocol_laws.proofs.machine.AllGood.{all_good, none_allowed}
+use Rattle.protocol_laws.proofs.machine.AllGood.{none_allowed}
 use Rattle.protocol_theorems.proofs.order.LastLaw.{facts_hold}
-use Rattle.protocol_records.specs.Logged.{is_on, AllThere}
-use Rattle.protocol_records.specs.Telling.{One, told_states, names, last_one, RecoversEachActor}
-use Rattle.protocol_records.specs.Crash.{is_in, NoneMissed}
-use Rattle.protocol_records.proofs.crash.CrashImplied.{Members, parts_serial}
+use Rattle.protocol_records.specs.Telling.{One, told_states, names, last_one}
+use Rattle.protocol_records.specs.Crash.{is_in}
 use Rattle.protocol_records.proofs.crash.CrashParts.{no_records}
-use Rattle.protocol_records.proofs.crash.IsClosedKept.{parts_closed}
 use Rattle.protocol_records.proofs.crash.RecoversKept.{first_of}
 use Rattle.followed_runs.specs.Following.{Reading, what_is_read, MayTake, followed_state, Round, read_before, IsLaterThan, GoOnRounds, followed, RoundStands, AllRoundsStand, InEveryRound}
 use Rattle.followed_runs.proofs.ReadersFirst.{told_at}
 use Rattle.followed_runs.proofs.OneCommits.{in_either}
 use Rattle.followed_runs.proofs.InOrder.{InOrder, in_order}
-use Rattle.followed_runs.proofs.Seen.{Seen, NoLess, seen_stays, is_less, seen_now, Listed, of_reading, seen_batch, seen_act, seen_committed, told_rest, none_beyond, ahead_seen}
-use Rattle.followed_runs.proofs.Closed.{IsClosedAhead, none_missed, front_in, readers_aside, with_readers}
+use Rattle.followed_runs.proofs.Seen.{Seen, NoLess, seen_stays, is_less, seen_now, Listed, of_reading, seen_batch, seen_act, seen_committed, told_rest, none_beyond}
+use Rattle.followed_runs.proofs.SeenChanged.{changed_seen}
+use Rattle.followed_runs.proofs.Closed.{readers_aside}
+use Rattle.followed_runs.proofs.ClosedByChange.{closed_by_change}
+use Rattle.followed_runs.proofs.SerialFrom.{SerialFrom, parts_serial_from}
+use Rattle.followed_runs.proofs.SetLists.{IsClosedAhead, SetLinks}
+use Rattle.followed_runs.proofs.SetsLink.{sets_link}
 
 -- ---- what holds of what a round took
 
 pub record Taken {C : Type 0} (w : Fixed C) (es : List Event) (now : ℕ → List LogRecord) (members : Who → Bool) : Type 0 where
   pub seen : (y : Who) → members y ≡ true → Seen w es now y
-  pub closed : (a : ℕ) → IsClosedAhead members (history w es).kept (history w es).kept_readers (told_at w (reached w es) a)
+  pub closed : (a : ℕ) → IsClosedAhead members (history w es).kept (history w es).kept_readers (first_of w a) (told_at w (reached w es) a)
 
 pub took : {C : Type 0} (w : Fixed C) (Of : Tx → C → Type 0) (finish : C → List State → Alone) (es : List Event) (before now : ℕ → List LogRecord) (taken members : Who → Bool) → Listed w Of finish es now → NoLess before now → ((y : Who) → is_in w.text.logs before y ≡ true → Seen w es now y)
-    → Taken w es before taken → MayTake w.text.logs taken before now members → Taken w es now members
+    → Taken w es before taken → MayTake w.text.logs (state_in w.text.opening.states) taken before now members → Taken w es now members
 took {C} w Of finish es before now taken members x n see t m = record { seen = seen; closed = closed }
   where
     seen : (y : Who) → members y ≡ true → Seen w es now y
     seen y i = elim (cases_Bool (taken y)) [ inl e ↦ seen_stays w es before now y n (t.seen y e) | inr e ↦ see y (m.seen y i e) ]
 
-    closed : (a : ℕ) → IsClosedAhead members (history w es).kept (history w es).kept_readers (told_at w (reached w es) a)
-    closed a z y i ez rival ahead = elim (cases_Bool (taken y)) [
-      | inl e ↦ m.stay z (t.closed a z y e ez rival ahead)
+    closed : (a : ℕ) → IsClosedAhead members (history w es).kept (history w es).kept_readers (first_of w a) (told_at w (reached w es) a)
+    closed a z y i ey kz changed = elim (cases_Bool (taken y)) [
+      | inl e ↦ m.stay z (t.closed a z y e ey kz changed)
       | inr e ↦ elim (cases_Bool (is_who z y)) [
         | inl j ↦ subst (λ v. members v ≡ true) (sym (is_who_true z y j)) i
-        | inr j ↦ let s = ahead_seen w Of finish es now a y z x (seen y i) ez rival j ahead in m.rest_on y z i e (a, s.1) s.0
+        | inr j ↦ let s = changed_seen w Of finish es now a y z x (seen y i) kz j changed in m.rest_on y z i e (a, s.1) s.0
       ]
     ]
 
@@ -65,12 +66,9 @@ took {C} w Of finish es before now taken members x n see t m = record { seen = s
 pub taken_done : {C : Type 0} (w : Fixed C) (Of : Tx → C → Type 0) (finish : C → List State → Alone) (es : List Event) (now : ℕ → List LogRecord) (members : Who → Bool) → Listed w Of finish es now → Taken w es now members → (y : Who) → members y ≡ true → in_either (history w es).kept (history w es).kept_readers y ≡ true
 taken_done w Of finish es now members x t y e = seen_committed w Of finish es now y x (t.seen y e)
 
--- on each actor nobody is missed
-pub taken_missed : {C : Type 0} (w : Fixed C) (Of : Tx → C → Type 0) (finish : C → List State → Alone) (es : List Event) (now : ℕ → List LogRecord) (members : Who → Bool) → Listed w Of finish es now → Taken w es now members → (a : ℕ) → NoneMissed a (λ d. members d.who && is_value d.result) (history w es).committed
-unfolding AllThere
-taken_missed w Of finish es now members x t a =
-    let i = in_order w Of finish es x.given x.run in
-    none_missed members a (history w es).kept (history w es).kept_readers (history w es).long (told_at w (reached w es) a) (history w es).committed (t.closed a) (i.done_ahead a) i.done i.known.logs.there
+-- on each actor its transactions link, and its last record tells what they leave
+pub taken_links : {C : Type 0} (w : Fixed C) (Of : Tx → C → Type 0) (finish : C → List State → Alone) (es : List Event) (now : ℕ → List LogRecord) (members : Who → Bool) → Listed w Of finish es now → Taken w es now members → (a : ℕ) → SetLinks a (first_of w a) (history w es).kept members (told_at w (reached w es) a) (history w es).committed
+taken_links w Of finish es now members x t a = (sets_link w Of finish es x.given x.run).sets a members (t.closed a)
 
 -- no record of a member lies behind what is read
 none_among : (P : Who → Bool) (os : List One) → ((y : Who) → P y ≡ true → names y os ≡ false) → filter (λ o. P o.who) os ≡ []
@@ -91,7 +89,6 @@ filter_done P kept readers (o ∷ os) k = by (P o.who) refl (filter_done P kept 
 -- the last record of a member tells the state that the members leave
 pub taken_tells : {C : Type 0} (w : Fixed C) (Of : Tx → C → Type 0) (finish : C → List State → Alone) (es : List Event) (now : ℕ → List LogRecord) (members : Who → Bool) → Listed w Of finish es now → Taken w es now members → (a : ℕ)
     → followed_state w.text.logs members now a (first_of w a) ≡ last_state a (first_of w a) (followed members (history w es))
-unfolding RecoversEachActor Committed
 taken_tells {C} w Of finish es now members x t a =
     ap (last_one (first_of w a)) (
     sym (append-nil (filter (λ o. members o.who) (told_states a (now (a % w.text.logs)))))
@@ -99,9 +96,8 @@ taken_tells {C} w Of finish es now members x t a =
     ∙ (sym (filter_join (λ o. members o.who) (told_states a (now (a % w.text.logs))) (told_states a (x.rest (a % w.text.logs)).0))
     ∙ (ap (filter (λ o. members o.who)) (sym (told_rest w Of finish es now a x))
     ∙ filter_done members kept readers (told_at w (reached w es) a) (taken_done w Of finish es now members x t)))))
-    ∙ (readers_aside members kept readers (first_of w a) (told_at w (reached w es) a) (λ z y p r k ahead. t.closed a z y p (or_left (is_kept z kept) _ k) (or_left (is_kept z kept) _ k) ahead) (i.tells a)
-    ∙ (i.known.recovers a members (front_in members (λ y. is_on y ((history w es).long a)) kept readers (told_at w (reached w es) a) kept (t.closed a) (λ y k. k) (i.kept_ahead a))
-    ∙ with_readers a (first_of w a) members (history w es).committed (taken_missed w Of finish es now members x t a) (i.known.whole.ordered.stills a) ((all_good w Of finish es x.given x.run).good.committed a).links))
+    ∙ (readers_aside members kept readers (first_of w a) (told_at w (reached w es) a) (λ z y p r k changed. t.closed a z y p (or_right (is_kept y kept) _ r) k changed) (i.tells a)
+    ∙ (taken_links w Of finish es now members x t a).tells)
   where
     i : InOrder w Of finish (reached w es) (history w es)
     i = in_order w Of finish es x.given x.run
@@ -118,8 +114,8 @@ unfolding NoLess
 stands {C} w finish es before now taken members f text x n see stay t = record {
   none_lost = stay;
   all_done = taken_done w Of finish es now members x t;
-  closed = parts_closed w finish es es [] members (sym (append-nil es)) f text x.run x.given.actors (taken_missed w Of finish es now members x t);
-  serial = run_serially.serial;
+  closed = closed_by_change w Of finish es members x.given x.run t.closed;
+  serial = run_serially.results;
   states = λ a k. taken_tells w Of finish es now members x t a ∙ sym (run_serially.states a k);
   no_less = n;
   whole_batches = λ k e. seen_batch w Of finish es now k x (see (OfBatch k) e);
@@ -129,8 +125,8 @@ stands {C} w finish es before now taken members f text x n see stay t = record {
     Of : Tx → C → Type 0
     Of = IsRest w.code (IsTxIn w.text)
 
-    run_serially : Members w finish (followed members (history w es))
-    run_serially = parts_serial w finish (reached w es) (history w es) members (facts_hold w Of finish es x.given x.run) (λ a k. taken_missed w Of finish es now members x t a)
+    run_serially : SerialFrom w finish w.text.opening.states (followed members (history w es))
+    run_serially = parts_serial_from w finish (reached w es) (history w es) members w.text.opening.states (facts_hold w Of finish es x.given x.run) refl (λ a k. inr refl) (λ a k. (taken_links w Of finish es now members x t a).links)
 
 -- ---- round by round
 
@@ -163,7 +159,7 @@ rounds_stand w finish es o taken (x ∷ xs) f text v run t g =
 
 -- ---- where there is no actor nothing is read
 
-no_events : {C : Type 0} (w : Fixed C) (es : List Event) → IsText w.text → length w.text.opening.states ≡ 0 → IsRun w es → es ≡ []
+pub no_events : {C : Type 0} (w : Fixed C) (es : List Event) → IsText w.text → length w.text.opening.states ≡ 0 → IsRun w es → es ≡ []
 no_events w [] text n run = refl
 no_events w (e ∷ es) text n run = absurd (none_allowed w e text n run.0)
 
@@ -176,7 +172,7 @@ take_none zero xs e = refl
 take_none (suc n) [] e = refl
 take_none (suc n) (x ∷ xs) e = absurd (cc e)
 
-reads_nothing : {C : Type 0} (w : Fixed C) (q : Reading w []) (l : ℕ) → what_is_read q l ≡ []
+pub reads_nothing : {C : Type 0} (w : Fixed C) (q : Reading w []) (l : ℕ) → what_is_read q l ≡ []
 reads_nothing w q l = take_none (q.count l) (log_at (reached w (q.events l)) l).records (ap (λ es. (log_at (reached w es) l).records) (empty_front (q.events l) (q.later l) (q.splits l)) ∙ no_records w.text.logs l)
 
 no_rounds : {C : Type 0} (w : Fixed C) (finish : C → List State → Alone) (o : Option (Reading w [])) (taken : Who → Bool) (xs : List (Round w [])) → length w.text.opening.states ≡ 0 → ((y : Who) → taken y ≡ true → ⊥) → GoOnRounds o taken xs → AllRoundsStand finish o taken xs

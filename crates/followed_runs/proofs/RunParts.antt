@@ -1,5 +1,5 @@
 -- Of what is read of several runs, the part of the first one: a reading of that run; and whose numbers tell of which run it is.
-use Rattle.std.specs.Prelude.{◌≡◌, refl, ℕ, zero, suc, ◌+◌, ◌≤◌, ◌%◌, Bool, true, ◌⊎◌, Some, None, List, [], ◌∷◌, ◌++◌, length, take, replicate, slice_index_or}
+use Rattle.std.specs.Prelude.{◌≡◌, refl, ℕ, zero, suc, ◌+◌, ◌≤◌, ◌%◌, ◌==◌, Bool, true, if◌then◌else◌, ◌⊎◌, Some, None, List, [], ◌∷◌, ◌++◌, length, take, replicate, slice_index_or}
 use Rattle.std.specs.List.{AllByRecursion, list_any}
 use Rattle.std.proofs.Common.{arith, sym, ap, subst, inl, inr, ◌∙◌}
 use Rattle.std.proofs.lemmas.List.{append-nil}
@@ -14,12 +14,12 @@ use Rattle.protocol.specs.Effects.{log_at, no_log}
 use Rattle.protocol.specs.Runs.{IsRun, reached}
 use Rattle.protocol.specs.Rests.{IsRest, IsTxIn}
 use Rattle.protocol.specs.History.{history}
-use Rattle.protocol.specs.Moments.{IsCut}
+use Rattle.protocol.specs.Moments.{IsCut, left_in}
 use Rattle.protocol_records.specs.Logged.{WrittenHaveValues}
 use Rattle.protocol_records.specs.Telling.{told_states, names}
 use Rattle.protocol_records.specs.Crash.{is_in}
 use Rattle.protocol_records.specs.SeveralRuns.{CutRun, MayBe, GoOn, logs_left, opening_left, recovered_from}
-use Rattle.followed_runs.specs.Following.{Reading, what_is_read, IsLater}
+use Rattle.followed_runs.specs.Following.{ChangedAhead, Reading, what_is_read, IsLater}
 use Rattle.followed_runs.specs.FollowingRuns.{Where, nothing, head_at, tail_at, read_at, IsNoEarlier, IsStill, RunsReading, head_read, tail_read, runs_read, IsLaterRead}
 use Rattle.protocol.specs.Words.{is_who}
 use Rattle.protocol_laws.proofs.first.Lists.{any_front, any_join, join_assoc}
@@ -29,8 +29,10 @@ use Rattle.protocol_records.proofs.crash.Durable.{any_back}
 use Rattle.protocol_records.proofs.crash.TellsKept.{told_join}
 use Rattle.followed_runs.proofs.OneCommits.{in_either}
 use Rattle.followed_runs.proofs.Numbers.{IsLow, IsHigh, low_committed, low_named, high_in, high_named}
-use Rattle.followed_runs.proofs.Seen.{Seen, NoLess, seen_stays, is_less, seen_now, Listed, of_reading, in_more, take_within, log_grew}
+use Rattle.followed_runs.proofs.Seen.{Seen, NoLess, seen_stays, is_less, at_log, seen_at, seen_now, Listed, of_reading, in_more, take_within, log_grew}
 use Rattle.followed_runs.proofs.InOrder.{in_order}
+use Rattle.followed_runs.proofs.SeenChanged.{told_in_cut}
+use Rattle.protocol_records.proofs.crash.RecoversKept.{first_of}
 
 -- ---- a run
 
@@ -57,7 +59,7 @@ no_synced zero l = refl
 no_synced (suc n) zero = refl
 no_synced (suc n) (suc l) = no_synced n l
 
-abbrev events_of : {C : Type 0} (x : CutRun C) (xs : List (CutRun C)) (l : ℕ) → Where (x ∷ xs) l → List Event
+abbrev pub events_of : {C : Type 0} (x : CutRun C) (xs : List (CutRun C)) (l : ℕ) → Where (x ∷ xs) l → List Event
 events_of x xs l None = []
 events_of x xs l (Some (inl s)) = s.events
 events_of x xs l (Some (inr p)) = x.moment.events
@@ -67,7 +69,7 @@ later_of x xs l None = x.moment.events
 later_of x xs l (Some (inl s)) = s.later
 later_of x xs l (Some (inr p)) = []
 
-abbrev count_of : {C : Type 0} (x : CutRun C) (xs : List (CutRun C)) (l : ℕ) → Where (x ∷ xs) l → ℕ
+abbrev pub count_of : {C : Type 0} (x : CutRun C) (xs : List (CutRun C)) (l : ℕ) → Where (x ∷ xs) l → ℕ
 count_of x xs l None = 0
 count_of x xs l (Some (inl s)) = s.count
 count_of x xs l (Some (inr p)) = x.kept l
@@ -194,6 +196,26 @@ head_sees x xs s r q h y e =
     seen_stays x.fixed x.moment.events (what_is_read (head_reading x xs s q)) (head_read x xs q) y (same_less (what_is_read (head_reading x xs s q)) (head_read x xs q) (reads_head x xs s q))
     (seen_now x.fixed x.moment.events (head_reading x xs s r) (head_reading x xs s q) y (run_of x s) (later_head x xs s r q h)
     (in_more x.fixed.text.logs (head_read x xs r) (what_is_read (head_reading x xs s r)) y (back_less (what_is_read (head_reading x xs s r)) (head_read x xs r) (reads_head x xs s r)) e))
+
+-- the cut of the first run at the moment at which one log was read: there what was read, and of the others what is synced
+abbrev pub head_cut : {C : Type 0} (x : CutRun C) (xs : List (CutRun C)) (n : ℕ) → Where (x ∷ xs) n → ℕ → ℕ
+head_cut x xs n p l = if l == n then count_of x xs n p else (log_at (reached x.fixed (events_of x xs n p)) l).synced
+
+abbrev pub head_left_in : {C : Type 0} (x : CutRun C) (xs : List (CutRun C)) (n : ℕ) → Where (x ∷ xs) n → ℕ → List LogRecord
+head_left_in x xs n p = left_in (reached x.fixed (events_of x xs n p)) (head_cut x xs n p)
+
+-- who is in that cut is seen in what is read later
+pub cut_seen : {C : Type 0} (x : CutRun C) (xs : List (CutRun C)) (s : Sound x) (r q : RunsReading (x ∷ xs)) (n : ℕ) (y : Who) → IsLaterRead (x ∷ xs) r q → is_in x.fixed.text.logs (head_left_in x xs n (r n)) y ≡ true → Seen x.fixed x.moment.events (head_read x xs q) y
+unfolding head_reading at_log
+cut_seen x xs s r q n y h e =
+    seen_stays x.fixed x.moment.events (what_is_read (head_reading x xs s q)) (head_read x xs q) y (same_less (what_is_read (head_reading x xs s q)) (head_read x xs q) (reads_head x xs s q))
+    (seen_at x.fixed x.moment.events (head_reading x xs s r) (head_reading x xs s q) n y (run_of x s) (later_head x xs s r q h) e)
+
+-- Whose commit record is read later, and changed an actor ahead of who is in that cut, is in that cut.
+pub told_in_head : {C : Type 0} (x : CutRun C) (xs : List (CutRun C)) (s : Sound x) (r q : RunsReading (x ∷ xs)) (n a : ℕ) (y z : Who) → IsLaterRead (x ∷ xs) r q → is_in x.fixed.text.logs (head_left_in x xs n (r n)) y ≡ true
+    → is_in x.fixed.text.logs (head_read x xs q) z ≡ true → ChangedAhead (is_in x.fixed.text.logs (head_read x xs q)) (first_of x.fixed a) z y (told_states a (head_read x xs q (a % x.fixed.text.logs))) → is_in x.fixed.text.logs (head_left_in x xs n (r n)) z ≡ true
+unfolding cut_seen seen_stays seen_at head_reading at_log
+told_in_head x xs s r q n a y z h e i c = told_in_cut x.fixed (Of x) x.finish x.moment.events (head_read x xs q) a y z (head_listed x xs s q) (cut_seen x xs s r q n y h e) i c
 
 -- no more than the run left
 pub head_left : {C : Type 0} (x : CutRun C) (xs : List (CutRun C)) (s : Sound x) (r : RunsReading (x ∷ xs)) → NoLess (head_read x xs r) (logs_left x)

@@ -1,5 +1,5 @@
 -- What a follower took of several runs is serial, run behind run, and its last records tell the states that it leaves.
-use Rattle.std.specs.Prelude.{◌≡◌, refl, ℕ, zero, suc, ◌<◌, ◌+◌, ◌%◌, ◌==◌, Bool, true, false, ◌&&◌, ◌⊎◌, if◌then◌else◌, Option, Some, None, is_some, List, [], ◌∷◌, ◌++◌, length, filter}
+use Rattle.std.specs.Prelude.{◌≡◌, refl, ℕ, ◌<◌, ◌%◌, Bool, true, false, ◌&&◌, ◌⊎◌, if◌then◌else◌, Option, Some, None, is_some, List, [], ◌∷◌, ◌++◌, length, filter}
 use Rattle.std.specs.List.{AllByRecursion, list_any}
 use Rattle.std.proofs.Common.{arith, sym, ap, subst, inl, inr, ◌∙◌}
 use Rattle.std.proofs.lemmas.List.{append-nil}
@@ -7,7 +7,7 @@ use Rattle.std.proofs.lemmas.Bool.{true≢false, or_cases, or_left, or_right, an
 use Rattle.snap_base.specs.declared.transactions.State.{State}
 use Rattle.protocol.specs.Facts.{state_in}
 use Rattle.protocol.specs.Fixed.{Opening}
-use Rattle.protocol.specs.Records.{LogRecord, BatchInfo, BatchComplete, BatchDone, ActPrepare, ActDone, is_complete, is_commit, is_prepare, is_act_commit}
+use Rattle.protocol.specs.Records.{LogRecord, BatchInfo, ActDone, is_complete, is_commit, is_prepare, is_act_commit}
 use Rattle.protocol.specs.Parts.{Who, OfBatch, OfAct}
 use Rattle.protocol.specs.Words.{is_who, is_value}
 use Rattle.protocol.specs.Runs.{reached}
@@ -20,17 +20,19 @@ use Rattle.protocol_theorems.proofs.order.LastLaw.{facts_hold}
 use Rattle.protocol_theorems.proofs.sets.RowsAgree.{filter_same}
 use Rattle.protocol_records.specs.Logged.{came_valued}
 use Rattle.protocol_records.specs.Telling.{One, told_states, names, last_one}
-use Rattle.protocol_records.specs.Crash.{is_in, tells_member_state, last_told, recovered_state, BatchIsWhole, ActIsWhole}
-use Rattle.protocol_records.specs.SeveralRuns.{CutRun, logs_left, opening_left, recovered_from}
+use Rattle.protocol_records.specs.Crash.{is_in, BatchIsWhole, ActIsWhole}
+use Rattle.protocol_records.specs.SeveralRuns.{CutRun, logs_left, opening_left}
 use Rattle.protocol_records.proofs.crash.Durable.{any_back}
-use Rattle.protocol_records.proofs.crash.IsClosedKept.{parts_closed}
 use Rattle.protocol_records.proofs.crash.TellsKept.{told_join}
 use Rattle.followed_runs.specs.Following.{MayTake, followed_state}
 use Rattle.followed_runs.specs.FollowingRuns.{Where, nothing, head_at, tail_at, read_at, IsStill, RunsReading, head_read, tail_read, runs_read, IsLaterRead, RunsRound, GoOnRunsRounds, members_among, first_members, run_from, RunsFollowed, world_behind, RunsRoundStands, AllRunsRoundsStand, InEveryRunsRound}
 use Rattle.followed_runs.proofs.ReadersFirst.{told_at}
 use Rattle.followed_runs.proofs.InOrder.{in_order}
 use Rattle.followed_runs.proofs.Seen.{NoLess, in_more, batch_more, act_more, seen_batch, seen_act}
-use Rattle.followed_runs.proofs.RoundsStand.{taken_missed, taken_tells}
+use Rattle.followed_runs.proofs.RoundsStand.{taken_links, taken_tells}
+use Rattle.followed_runs.proofs.ClosedByChange.{closed_by_change}
+use Rattle.followed_runs.proofs.ChangedAhead.{same_told}
+use Rattle.followed_runs.proofs.LeftStates.{left_state}
 use Rattle.followed_runs.proofs.RunParts.{Sound, Of, given, run_of, later_nothing, later_tail, nothing_at, head_listed, head_less, head_sees, head_left, in_cases, in_left, in_right, named_left, named_right, Runs, left_long, sound, runs_behind, none_in, apart_named, named_apart}
 use Rattle.followed_runs.proofs.RunsStand.{Step, Holds, round_holds, seen_named}
 use Rattle.followed_runs.proofs.SerialFrom.{SerialFrom, parts_serial_from}
@@ -91,32 +93,6 @@ all_named P (o ∷ os) h = (h o (or_left (is_who o.who o.who) _ (is_who_refl o.w
 
 same_filter : (P Q : Who → Bool) (os : List One) → ((y : Who) → names y os ≡ true → P y ≡ Q y) → filter (λ o. P o.who) os ≡ filter (λ o. Q o.who) os
 same_filter P Q os h = filter_same (λ o. P o.who) (λ o. Q o.who) os (all_named (λ o. P o.who ≡ Q o.who) os (λ o n. h o.who n))
-
--- what is recovered of an actor, as its records tell it
-counted : (many a : ℕ) (logs : ℕ → List LogRecord) (first : State) (rs : List LogRecord) → last_told first (filter (tells_member_state many logs a) rs) ≡ last_one first (filter (λ o. is_in many logs o.who) (told_states a rs))
-counted many a logs first [] = refl
-counted many a logs first (BatchInfo k actors tids ∷ rs) = counted many a logs first rs
-counted many a logs first (BatchComplete k b st ∷ rs) = by (b == a) (is_in many logs (OfBatch k)) refl (λ s. counted many a logs s rs)
-  where
-    by : (v u : Bool) → is_in many logs (OfBatch k) ≡ u → ((s : State) → last_told s (filter (tells_member_state many logs a) rs) ≡ last_one s (filter (λ o. is_in many logs o.who) (told_states a rs)))
-        → last_told first (if v && u then BatchComplete k b st ∷ filter (tells_member_state many logs a) rs else filter (tells_member_state many logs a) rs) ≡ last_one first (filter (λ o. is_in many logs o.who) (if v then record { who = OfBatch k; state = st } ∷ told_states a rs else told_states a rs))
-    by true true e r = rw e (r st)
-    by true false e r = rw e (r first)
-    by false u e r = r first
-counted many a logs first (BatchDone k vs ∷ rs) = counted many a logs first rs
-counted many a logs first (ActPrepare t b st ∷ rs) = by (b == a) (is_in many logs (OfAct t)) refl (λ s. counted many a logs s rs)
-  where
-    by : (v u : Bool) → is_in many logs (OfAct t) ≡ u → ((s : State) → last_told s (filter (tells_member_state many logs a) rs) ≡ last_one s (filter (λ o. is_in many logs o.who) (told_states a rs)))
-        → last_told first (if v && u then ActPrepare t b st ∷ filter (tells_member_state many logs a) rs else filter (tells_member_state many logs a) rs) ≡ last_one first (filter (λ o. is_in many logs o.who) (if v then record { who = OfAct t; state = st } ∷ told_states a rs else told_states a rs))
-    by true true e r = rw e (r st)
-    by true false e r = rw e (r first)
-    by false u e r = r first
-counted many a logs first (ActDone t m c v actors ∷ rs) = counted many a logs first rs
-
-state_left : (many : ℕ) (logs : ℕ → List LogRecord) (n a : ℕ) (ss : List State) → a < length ss → state_in (recovered_from many logs n ss) a ≡ recovered_state many logs (n + a) (state_in ss a)
-state_left many logs n a [] l = absurd (omega (arith, l))
-state_left many logs n zero (s ∷ ss) l = let e : n ≡ n + 0 = omega arith in ap (λ z. recovered_state many logs z s) e
-state_left many logs n (suc a) (s ∷ ss) l = let e : n + 1 + a ≡ n + suc a = omega arith in state_left many logs (n + 1) a ss (omega (arith, l)) ∙ ap (λ z. recovered_state many logs z (state_in ss a)) e
 
 -- ---- what is ready before the runs
 
@@ -187,7 +163,7 @@ serial_here : {C : Type 0} (x : CutRun C) (xs : List (CutRun C)) (r : RunsReadin
 serial_here {C} x xs r members world d =
     parts_serial_from x.fixed x.finish (reached x.fixed x.moment.events) (history x.fixed x.moment.events) (Ours x xs r members) world (facts_hold x.fixed (Of x) x.finish x.moment.events (given x sd) (run_of x sd)) d.long
     (λ a k. elim (d.agrees a k) [ inl e ↦ inr e | inr e ↦ inl (nobody_came x xs r members world a d (sym (part_filter x xs r members world a d) ∙ head_none x xs r members a x.fixed.text.logs e)) ])
-    (λ a k. taken_missed x.fixed (Of x) x.finish x.moment.events (head_read x xs r) (Ours x xs r members) (head_listed x xs sd r) d.holds.taken.0 a)
+    (λ a k. (taken_links x.fixed (Of x) x.finish x.moment.events (head_read x xs r) (Ours x xs r members) (head_listed x xs sd r) d.holds.taken.0 a).links)
   where
     sd : Sound x
     sd = own_sound x xs r members world d
@@ -218,25 +194,21 @@ tells_here {C} x xs r members world a d k = by (d.agrees a k)
         let n = head_none x xs r members a x.fixed.text.logs e in
         ap (last_one (state_in world a)) n ∙ sym (leaves ∙ (unvisited a (state_in world a) (first_members x.fixed.text.logs x xs r members) (nobody_came x xs r members world a d (sym (part_filter x xs r members world a d) ∙ n))))
 
--- where a member of a later run has a record, those of this run that have one are just those that are left
-ours_are_left : {C : Type 0} (x : CutRun C) (xs : List (CutRun C)) (r : RunsReading (x ∷ xs)) (members : Who → Bool) (world : List State) (a : ℕ) (y z : Who) → Ready x.fixed.text.logs x.fixed.text.opening (x ∷ xs) r members world
-    → members y ≡ true → is_in x.fixed.text.logs (runs_read xs (tail_read x xs r)) y ≡ true → names y (told_states a (runs_read xs (tail_read x xs r) (a % x.fixed.text.logs))) ≡ true → names z (told_states a (logs_left x (a % x.fixed.text.logs))) ≡ true → members z ≡ is_in x.fixed.text.logs (logs_left x) z
-ours_are_left {C} x xs r members world a y z d m iy n nz = case (members z) (is_in x.fixed.text.logs (logs_left x) z) refl refl
+-- where a member of a later run has a record, the members of this run are left, and who is left and no member changed nothing
+ours_tell : {C : Type 0} (x : CutRun C) (xs : List (CutRun C)) (r : RunsReading (x ∷ xs)) (members : Who → Bool) (world : List State) (a : ℕ) (y : Who) → Ready x.fixed.text.logs x.fixed.text.opening (x ∷ xs) r members world
+    → members y ≡ true → is_in x.fixed.text.logs (runs_read xs (tail_read x xs r)) y ≡ true → names y (told_states a (runs_read xs (tail_read x xs r) (a % x.fixed.text.logs))) ≡ true
+    → last_one (state_in x.fixed.text.opening.states a) (filter (λ e. members e.who) (told_states a (head_read x xs r (a % x.fixed.text.logs)))) ≡ last_one (state_in x.fixed.text.opening.states a) (filter (λ e. is_in x.fixed.text.logs (logs_left x) e.who) (told_states a (logs_left x (a % x.fixed.text.logs))))
+ours_tell {C} x xs r members world a y d m iy n =
+    ap (λ rs. last_one (state_in x.fixed.text.opening.states a) (filter (λ e. members e.who) (told_states a rs))) (d.holds.crossed.0.over y m iy (a % x.fixed.text.logs))
+    ∙ same_told members (is_in x.fixed.text.logs (logs_left x)) (state_in x.fixed.text.opening.states a) (told_states a (logs_left x (a % x.fixed.text.logs))) (λ z nz p. here z nz p) (λ z lz changes. d.holds.crossed.0.taken a y z m iy n lz changes)
   where
-    nh : names z (told_states a (head_read x xs r (a % x.fixed.text.logs))) ≡ true
-    nh = ap (λ w. names z (told_states a w)) (d.holds.crossed.0.over y m iy (a % x.fixed.text.logs)) ∙ nz
-
-    here : members z ≡ true → is_in x.fixed.text.logs (head_read x xs r) z ≡ true
-    here p = elim (in_cases x.fixed.text.logs (head_read x xs r) (runs_read xs (tail_read x xs r)) z (d.owned a z p (named_left a z (head_read x xs r (a % x.fixed.text.logs)) (runs_read xs (tail_read x xs r) (a % x.fixed.text.logs)) nh))) [
-      | inl i ↦ i
-      | inr i ↦ absurd (named_apart x.fixed.text.logs a x.fixed.text.opening x xs r r z d.runs nh i)
-    ]
-
-    case : (b c : Bool) → members z ≡ b → is_in x.fixed.text.logs (logs_left x) z ≡ c → b ≡ c
-    case true true p q = refl
-    case false false p q = refl
-    case false true p q = absurd (true≢false (sym (d.holds.crossed.0.taken a y z m iy n q nz) ∙ p))
-    case true false p q = absurd (true≢false (sym (in_more x.fixed.text.logs (head_read x xs r) (logs_left x) z (head_left x xs (own_sound x xs r members world d) r) (here p)) ∙ q))
+    here : (z : Who) → names z (told_states a (logs_left x (a % x.fixed.text.logs))) ≡ true → members z ≡ true → is_in x.fixed.text.logs (logs_left x) z ≡ true
+    here z nz p =
+        let nh : names z (told_states a (head_read x xs r (a % x.fixed.text.logs))) ≡ true = ap (λ w. names z (told_states a w)) (d.holds.crossed.0.over y m iy (a % x.fixed.text.logs)) ∙ nz in
+        in_more x.fixed.text.logs (head_read x xs r) (logs_left x) z (head_left x xs (own_sound x xs r members world d) r) (elim (in_cases x.fixed.text.logs (head_read x xs r) (runs_read xs (tail_read x xs r)) z (d.owned a z p (named_left a z (head_read x xs r (a % x.fixed.text.logs)) (runs_read xs (tail_read x xs r) (a % x.fixed.text.logs)) nh))) [
+          | inl i ↦ i
+          | inr i ↦ absurd (named_apart x.fixed.text.logs a x.fixed.text.opening x xs r r z d.runs nh i)
+        ])
 
 -- there the world is what the run left
 agrees_behind : {C : Type 0} (x : CutRun C) (xs : List (CutRun C)) (r : RunsReading (x ∷ xs)) (members : Who → Bool) (world : List State) → Ready x.fixed.text.logs x.fixed.text.opening (x ∷ xs) r members world → Owned x.fixed.text.logs xs (tail_read x xs r) members
@@ -249,20 +221,12 @@ agrees_behind {C} x xs r members world d owned a k0 = elim (first_of_some (λ e.
     k : a < length x.fixed.text.opening.states
     k = omega (arith, k0, left_long x.fixed.text.logs (logs_left x) 0 x.fixed.text.opening.states)
 
-    zero_off : 0 + a ≡ a
-    zero_off = omega arith
-
-    same : (y : Who) → members y ≡ true → names y (told_states a (runs_read xs (tail_read x xs r) (a % x.fixed.text.logs))) ≡ true → filter (λ e. members e.who) (told_states a (head_read x xs r (a % x.fixed.text.logs))) ≡ filter (λ e. is_in x.fixed.text.logs (logs_left x) e.who) (told_states a (logs_left x (a % x.fixed.text.logs)))
-    same y m n = ap (λ z. filter (λ e. members e.who) (told_states a z)) (d.holds.crossed.0.over y m (owned a y m n) (a % x.fixed.text.logs)) ∙ same_filter members (is_in x.fixed.text.logs (logs_left x)) (told_states a (logs_left x (a % x.fixed.text.logs))) (λ z nz. ours_are_left x xs r members world a y z d m (owned a y m n) n nz)
-
     by : (y : Who) → members y ≡ true → names y (told_states a (runs_read xs (tail_read x xs r) (a % x.fixed.text.logs))) ≡ true → (state_in world a ≡ state_in x.fixed.text.opening.states a) ⊎ (filter (λ e. members e.who) (told_states a (runs_read (x ∷ xs) r (a % x.fixed.text.logs))) ≡ []) → state_in (WorldOf x xs r members world) a ≡ state_in (opening_left x).states a
     by y m n (inr e) = absurd (none_named members y (told_states a (runs_read (x ∷ xs) r (a % x.fixed.text.logs))) e (named_right a y (head_read x xs r (a % x.fixed.text.logs)) (runs_read xs (tail_read x xs r) (a % x.fixed.text.logs)) n) m)
     by y m n (inl e) =
         sym (tells_here x xs r members world a d k)
         ∙ (ap (λ z. last_one z (filter (λ e. members e.who) (told_states a (head_read x xs r (a % x.fixed.text.logs))))) e
-        ∙ (ap (last_one (state_in x.fixed.text.opening.states a)) (same y m n)
-        ∙ (sym (counted x.fixed.text.logs a (logs_left x) (state_in x.fixed.text.opening.states a) (logs_left x (a % x.fixed.text.logs)))
-        ∙ sym (state_left x.fixed.text.logs (logs_left x) 0 a x.fixed.text.opening.states k ∙ ap (λ z. recovered_state x.fixed.text.logs (logs_left x) z (state_in x.fixed.text.opening.states a)) zero_off))))
+        ∙ (ours_tell x xs r members world a y d m (owned a y m n) n ∙ sym (left_state x a k)))
 
 owned_behind : {C : Type 0} (x : CutRun C) (xs : List (CutRun C)) (r : RunsReading (x ∷ xs)) (members : Who → Bool) (world : List State) → Ready x.fixed.text.logs x.fixed.text.opening (x ∷ xs) r members world → Owned x.fixed.text.logs xs (tail_read x xs r) members
 owned_behind x xs r members world d a y m n = elim (in_cases x.fixed.text.logs (head_read x xs r) (runs_read xs (tail_read x xs r)) y (d.owned a y m (named_right a y (head_read x xs r (a % x.fixed.text.logs)) (runs_read xs (tail_read x xs r) (a % x.fixed.text.logs)) n))) [
@@ -286,7 +250,7 @@ one_run x xs r members world d rest =
     record {
       followed = (
         (
-          parts_closed x.fixed x.finish x.moment.events x.moment.events [] (Ours x xs r members) (sym (append-nil x.moment.events)) sd.may.facts sd.may.text (run_of x sd) sd.actors (taken_missed x.fixed (Of x) x.finish x.moment.events (head_read x xs r) (Ours x xs r members) (head_listed x xs sd r) d.holds.taken.0),
+          closed_by_change x.fixed (Of x) x.finish x.moment.events (Ours x xs r members) (given x sd) (run_of x sd) d.holds.taken.0.closed,
           (serial_here x xs r members world d).results,
         ),
         rest.followed,
@@ -377,9 +341,9 @@ record Began {C : Type 0} (many : ℕ) (xs : List (CutRun C)) (r : RunsReading x
   known : (y : Who) → is_in many before y ≡ true → is_in many (runs_read xs r) y ≡ true
 
 one_round : {C : Type 0} (many : ℕ) (o : Opening) (xs : List (CutRun C)) (r q : RunsReading xs) (before : ℕ → List LogRecord) (taken members : Who → Bool) → Runs many o xs → IsLaterRead xs r q → ((y : Who) → is_in many (runs_read xs r) y ≡ true → is_in many (runs_read xs q) y ≡ true)
-    → ((l : ℕ) → (more : List LogRecord) × (runs_read xs q l ≡ before l ++ more)) → Began many xs r before taken → MayTake many taken before (runs_read xs q) members → RunsRoundStands many o xs taken before q members × Began many xs q (runs_read xs q) members
+    → ((l : ℕ) → (more : List LogRecord) × (runs_read xs q l ≡ before l ++ more)) → Began many xs r before taken → MayTake many (state_in o.states) taken before (runs_read xs q) members → RunsRoundStands many o xs taken before q members × Began many xs q (runs_read xs q) members
 one_round many o xs r q before taken members g h more less b m =
-    let step : Step many (runs_read xs r) (runs_read xs q) taken members = record {
+    let step : Step many (state_in o.states) (runs_read xs r) (runs_read xs q) taken members = record {
       stay = m.stay;
       old = λ y t i. b.read y t;
       seen = λ y i t j. b.known y (m.seen y i t);
@@ -422,7 +386,7 @@ none_taken many (x ∷ xs) =
       crossed = (record { over = λ y e. absurd (true≢false (sym e)); taken = λ a y z e. absurd (true≢false (sym e)) }, r.crossed);
     }
 
-later_rounds : {C : Type 0} (many : ℕ) (o : Opening) (xs : List (CutRun C)) (r : RunsReading xs) (taken : Who → Bool) (ys : List (RunsRound xs)) → Runs many o xs → Began many xs r (runs_read xs r) taken → GoOnRunsRounds many xs (Some r) taken ys → AllRunsRoundsStand many o xs (Some r) taken ys
+later_rounds : {C : Type 0} (many : ℕ) (o : Opening) (xs : List (CutRun C)) (r : RunsReading xs) (taken : Who → Bool) (ys : List (RunsRound xs)) → Runs many o xs → Began many xs r (runs_read xs r) taken → GoOnRunsRounds many (state_in o.states) xs (Some r) taken ys → AllRunsRoundsStand many o xs (Some r) taken ys
 later_rounds many o xs r taken [] g b h = tt
 later_rounds many o xs r taken (y ∷ ys) g b h =
     let one = one_round many o xs r y.reading (runs_read xs r) taken y.members g h.0.0 (λ z i. read_more many o xs r y.reading z g h.0.0 i) (read_less many o xs r y.reading g h.0.0) b h.0.1 in

@@ -86,7 +86,7 @@ pub record Seen {C : Type 0} (w : Fixed C) (es : List Event) (logs : ℕ → Lis
 unfoldable pub NoLess : (ℕ → List LogRecord) → (ℕ → List LogRecord) → Type 0
 NoLess before now = (l : ℕ) → (more : List LogRecord) × (now l ≡ before l ++ more)
 
-pub seen_stays : {C : Type 0} (w : Fixed C) (es : List Event) (before now : ℕ → List LogRecord) (y : Who) → NoLess before now → Seen w es before y → Seen w es now y
+unfoldable pub seen_stays : {C : Type 0} (w : Fixed C) (es : List Event) (before now : ℕ → List LogRecord) (y : Who) → NoLess before now → Seen w es before y → Seen w es now y
 unfolding NoLess
 seen_stays w es before now y n s = record {
   events = s.events;
@@ -107,10 +107,10 @@ is_less w es r q run l i =
     (t.0, ap (take (q.count i)) g.records.is ∙ t.1)
 
 -- the cut of the reading's moment at one log: there what was read, and of the others what is synced
-at_log : {C : Type 0} {w : Fixed C} {es : List Event} → Reading w es → ℕ → ℕ → ℕ
+unfoldable pub at_log : {C : Type 0} {w : Fixed C} {es : List Event} → Reading w es → ℕ → ℕ → ℕ
 at_log {w = w} r n l = if l == n then r.count n else (log_at (reached w (r.events n)) l).synced
 
-seen_at : {C : Type 0} (w : Fixed C) (es : List Event) (r q : Reading w es) (n : ℕ) (y : Who) → IsRun w es → IsLater r q → is_in w.text.logs (left_in (reached w (r.events n)) (at_log r n)) y ≡ true → Seen w es (what_is_read q) y
+unfoldable pub seen_at : {C : Type 0} (w : Fixed C) (es : List Event) (r q : Reading w es) (n : ℕ) (y : Who) → IsRun w es → IsLater r q → is_in w.text.logs (left_in (reached w (r.events n)) (at_log r n)) y ≡ true → Seen w es (what_is_read q) y
 unfolding at_log
 seen_at {C} w es r q n y run t i = record {
   events = r.events n;
@@ -330,13 +330,14 @@ none_beyond {C} w Of finish es now a y x s = names_back y (told_states a (s.with
 
 -- ---- what stands ahead of it
 
--- Each rival that committed and has its record ahead is in the lists, with its record ahead there.
-pub ahead_seen : {C : Type 0} (w : Fixed C) (Of : Tx → C → Type 0) (finish : C → List State → Alone) (es : List Event) (now : ℕ → List LogRecord) (a : ℕ) (y z : Who) → Listed w Of finish es now → Seen w es now y
+-- Each rival that committed and has its record ahead is in the cut, and in the lists, with its record ahead there.
+pub ahead_seen : {C : Type 0} (w : Fixed C) (Of : Tx → C → Type 0) (finish : C → List State → Alone) (es : List Event) (now : ℕ → List LogRecord) (a : ℕ) (y z : Who) → Listed w Of finish es now → (s : Seen w es now y)
     → in_either (history w es).kept (history w es).kept_readers z ≡ true → (is_kept z (history w es).kept || is_kept y (history w es).kept) ≡ true → is_who z y ≡ false → is_ahead z y (told_at w (reached w es) a) ≡ true
-    → (is_in w.text.logs now z ≡ true) × (is_ahead z y (told_states a (now (a % w.text.logs))) ≡ true)
+    → (is_in w.text.logs (left_in (reached w s.events) s.cut) z ≡ true) × (is_in w.text.logs now z ≡ true) × (is_ahead z y (told_states a (now (a % w.text.logs))) ≡ true)
 unfolding NoLess
 ahead_seen {C} w Of finish es now a y z x s ez rival other i = (
-  in_more w.text.logs (left_in s1 s.cut) now z s.within (sure_in w s1 s.cut z s.is_cut (order.sure a z y committed_then ey rival_then other there)),
+  in_cut_too,
+  in_more w.text.logs (left_in s1 s.cut) now z s.within in_cut_too,
   subst (λ os. is_ahead z y os ≡ true) (sym (told_now_on w es now a y s)) (ahead_more z y (told_states a (left_in s1 s.cut (a % w.text.logs))) (told_states a (s.within (a % w.text.logs)).0) in_cut),
 )
   where
@@ -387,3 +388,6 @@ ahead_seen {C} w Of finish es now a y z x s ez rival other i = (
 
     rival_then : (is_kept z (history w s.events).kept || is_kept y (history w s.events).kept) ≡ true
     rival_then = elim (or_cases (is_kept z (history w es).kept) (is_kept y (history w es).kept) rival) [ inl q ↦ or_left (is_kept z (history w s.events).kept) _ (writer_then z committed_then q) | inr q ↦ or_right (is_kept z (history w s.events).kept) _ (writer_then y ey q) ]
+
+    in_cut_too : is_in w.text.logs (left_in s1 s.cut) z ≡ true
+    in_cut_too = sure_in w s1 s.cut z s.is_cut (order.sure a z y committed_then ey rival_then other there)

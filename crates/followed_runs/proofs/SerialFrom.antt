@@ -1,4 +1,4 @@
--- Those of a set of whom nobody is missed, one after the other from a world that has the opening's state on each actor to which they came.
+-- Those of a set whose states link, one after the other from a world that has the opening's state on each actor to which they came.
 use Rattle.std.specs.Prelude.{◌≡◌, refl, ℕ, ◌<◌, Bool, true, false, ◌&&◌, ◌⊎◌, if◌then◌else◌, Option, Some, None, is_some, List, [], ◌∷◌, length, map, filter}
 use Rattle.std.specs.List.{AllByRecursion}
 use Rattle.std.proofs.Common.{arith, sym, subst, inl, inr, ◌∙◌, ap}
@@ -16,8 +16,6 @@ use Rattle.protocol_laws.proofs.first.Lists.{all_filter}
 use Rattle.protocol_theorems.specs.Order.{LeavesIt, OrderFacts}
 use Rattle.protocol_theorems.proofs.order.ByPlace.{all_sorted}
 use Rattle.protocol_theorems.proofs.order.OrderImplied.{LinkedFrom, serial_results, serial_length, serial_states, sorted_links, sorted_last}
-use Rattle.protocol_records.specs.Crash.{NoneMissed}
-use Rattle.protocol_records.proofs.crash.CrashImplied.{links_members}
 
 -- a part of what rises rises
 rise_filter : (test : Done → Bool) (ds : List Done) → RivalsRise ds → RivalsRise (filter test ds)
@@ -55,9 +53,9 @@ pub record SerialFrom {C : Type 0} (w : Fixed C) (finish : C → List State → 
 
 pub parts_serial_from : {C : Type 0} (w : Fixed C) (finish : C → List State → Alone) (s : Machine C) (h : History) (test : Who → Bool) (world : List State) → OrderFacts w finish s h → length world ≡ length w.text.opening.states
     → ((a : ℕ) → a < length w.text.opening.states → AllByRecursion (λ d. came_to a d ≡ false) (filter (λ d. test d.who && is_value d.result) h.committed) ⊎ (state_in world a ≡ state_in w.text.opening.states a))
-    → ((a : ℕ) → a < length w.text.opening.states → NoneMissed a (λ d. test d.who && is_value d.result) h.committed) → SerialFrom w finish world (filter (λ d. test d.who && is_value d.result) h.committed)
+    → ((a : ℕ) → a < length w.text.opening.states → StatesLink a (state_in w.text.opening.states a) (filter (λ d. test d.who && is_value d.result) h.committed)) → SerialFrom w finish world (filter (λ d. test d.who && is_value d.result) h.committed)
 unfolding LinkedFrom
-parts_serial_from {C} w finish s h test world f many there missed = record {
+parts_serial_from {C} w finish s h test world f many there links = record {
   results = serial_results w finish (by_place ms) world many explained sorted;
   as_many = serial_length w finish (by_place ms) world many explained sorted;
   states = λ a k. serial_states w finish (by_place ms) world many explained sorted a k ∙ sorted_last a (state_in world a) ms (rise a (omega (arith, k, many))) (left a) (linked a (omega (arith, k, many)));
@@ -78,7 +76,7 @@ parts_serial_from {C} w finish s h test world f many there missed = record {
     linked : (a : ℕ) → a < length w.text.opening.states → StatesLink a (state_in world a) ms
     linked a k = elim (there a k) [
       | inl e ↦ none_link a (state_in world a) ms e
-      | inr e ↦ subst (λ z. StatesLink a z ms) (sym e) (links_members a (state_in w.text.opening.states a) (λ d. test d.who && is_value d.result) h.committed (missed a k) (f.still a) (f.linked a k))
+      | inr e ↦ subst (λ z. StatesLink a z ms) (sym e) (links a k)
     ]
 
     sorted : LinkedFrom world (by_place ms)

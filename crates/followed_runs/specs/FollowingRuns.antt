@@ -12,12 +12,12 @@ use Rattle.protocol.specs.Words.{count}
 use Rattle.protocol.specs.Effects.{log_at}
 use Rattle.protocol.specs.Runs.{reached}
 use Rattle.protocol.specs.History.{Done, history}
-use Rattle.protocol.specs.Chains.{IsClosedSet, by_place, txs_of}
+use Rattle.protocol.specs.Chains.{by_place, txs_of}
 use Rattle.protocol_records.specs.Telling.{told_states, names}
 use Rattle.protocol_records.specs.Crash.{is_in, HasMember, BatchIsWhole, ActIsWhole}
 use Rattle.protocol_records.specs.RecordLaws.{RecordKey, has_key}
 use Rattle.protocol_records.specs.SeveralRuns.{CutRun, GoOn, logs_left}
-use Rattle.followed_runs.specs.Following.{MayTake, followed, followed_state}
+use Rattle.followed_runs.specs.Following.{Changes, MayTake, TakesMost, followed, followed_state, IsClosedByChange}
 
 -- ---- readings
 
@@ -106,11 +106,11 @@ abbrev pub IsLaterThanRead : {C : Type 0} (xs : List (CutRun C)) → Option (Run
 IsLaterThanRead xs None q = ⊤
 IsLaterThanRead xs (Some r) q = IsLaterRead xs r q
 
-abbrev pub GoOnRunsRounds : {C : Type 0} → ℕ → (xs : List (CutRun C)) → Option (RunsReading xs) → (Who → Bool) → List (RunsRound xs) → Type 0
-GoOnRunsRounds many xs o taken [] = ⊤
-GoOnRunsRounds many xs o taken (y ∷ ys) =
-    (IsLaterThanRead xs o y.reading × MayTake many taken (runs_before xs o) (runs_read xs y.reading) y.members)
-    × GoOnRunsRounds many xs (Some y.reading) y.members ys
+abbrev pub GoOnRunsRounds : {C : Type 0} → ℕ → (ℕ → State) → (xs : List (CutRun C)) → Option (RunsReading xs) → (Who → Bool) → List (RunsRound xs) → Type 0
+GoOnRunsRounds many first xs o taken [] = ⊤
+GoOnRunsRounds many first xs o taken (y ∷ ys) =
+    (IsLaterThanRead xs o y.reading × MayTake many first taken (runs_before xs o) (runs_read xs y.reading) y.members)
+    × GoOnRunsRounds many first xs (Some y.reading) y.members ys
 
 -- ---- what every round owes
 
@@ -125,12 +125,13 @@ first_members many x xs r members = followed (members_among many (head_read x xs
 abbrev pub run_from : {C : Type 0} → CutRun C → List State → List Done → Serial
 run_from x world ds = serial x.fixed.code x.finish world (txs_of x.fixed (by_place ds))
 
--- Run by run, one behind the other: with each member all that the run places before it, and that committed with a value; one after the
--- other in the order of places the members of the run give their results, from the states that those of the runs before left.
+-- Run by run, one behind the other: with each member all that committed with a value, and that the run places before it on an actor that
+-- it or its batch changed; one after the other in the order of places the members of the run give their results, from the states that
+-- those of the runs before left.
 abbrev pub RunsFollowed : {C : Type 0} → ℕ → (xs : List (CutRun C)) → RunsReading xs → (Who → Bool) → List State → Type 0
 RunsFollowed many [] r members world = ⊤
 RunsFollowed many (x ∷ xs) r members world =
-    (IsClosedSet (λ t. HasMember t (first_members many x xs r members)) (history x.fixed x.moment.events)
+    (IsClosedByChange (λ t. HasMember t (first_members many x xs r members)) (history x.fixed x.moment.events)
     × (map Some (run_from x world (first_members many x xs r members)).results ≡ map (λ d. d.result) (by_place (first_members many x xs r members))))
     × RunsFollowed many xs (tail_read x xs r) members (run_from x world (first_members many x xs r members)).world
 
@@ -139,11 +140,12 @@ abbrev pub world_behind : {C : Type 0} → ℕ → (xs : List (CutRun C)) → Ru
 world_behind many [] r members world = world
 world_behind many (x ∷ xs) r members world = world_behind many xs (tail_read x xs r) members (run_from x world (first_members many x xs r members)).world
 
--- With a member of a later run all of the first run that has a record of one of its actors ahead, and that is left.
+-- With a member of a later run all of the first run that is left and changed one of its actors: its record of this actor tells another
+-- state than the last one before it of those that are left, or the first one.
 pub record IsCrossed {C : Type 0} (many : ℕ) (x : CutRun C) (xs : List (CutRun C)) (r : RunsReading (x ∷ xs)) (members : Who → Bool) : Type 0 where
   pub over : (y : Who) → members y ≡ true → is_in many (runs_read xs (tail_read x xs r)) y ≡ true → (l : ℕ) → head_read x xs r l ≡ logs_left x l
   pub taken : (a : ℕ) (y z : Who) → members y ≡ true → is_in many (runs_read xs (tail_read x xs r)) y ≡ true → names y (told_states a (runs_read xs (tail_read x xs r) (a % many))) ≡ true
-      → is_in many (logs_left x) z ≡ true → names z (told_states a (logs_left x (a % many))) ≡ true → members z ≡ true
+      → is_in many (logs_left x) z ≡ true → Changes (is_in many (logs_left x)) (state_in x.fixed.text.opening.states a) z (told_states a (logs_left x (a % many))) → members z ≡ true
 
 abbrev pub AllCrossed : {C : Type 0} → ℕ → (xs : List (CutRun C)) → RunsReading xs → (Who → Bool) → Type 0
 AllCrossed many [] r members = ⊤
@@ -172,7 +174,7 @@ AllRunsRoundsStand many o xs before taken (y ∷ ys) =
 abbrev pub InEveryRunsRound : Type 0 → Type 0
 InEveryRunsRound C =
     (many : ℕ) (o : Opening) (xs : List (CutRun C)) (ys : List (RunsRound xs))
-    → 1 ≤ length o.states → AllByRecursion (λ x. x.fixed.text.logs ≡ many) xs → GoOn o xs → GoOnRunsRounds many xs None (λ y. false) ys
+    → 1 ≤ length o.states → AllByRecursion (λ x. x.fixed.text.logs ≡ many) xs → GoOn o xs → GoOnRunsRounds many (state_in o.states) xs None (λ y. false) ys
     → AllRunsRoundsStand many o xs None (λ y. false) ys
 
 -- Whatever is read of a log of these runs, of each key at most one record is among it.
@@ -181,3 +183,35 @@ RecordsReadOnce C =
     (many : ℕ) (o : Opening) (xs : List (CutRun C)) (r : RunsReading xs)
     → 1 ≤ length o.states → AllByRecursion (λ x. x.fixed.text.logs ≡ many) xs → GoOn o xs
     → (l : ℕ) → l < many → (k : RecordKey) → count (has_key k) (runs_read xs r l) ≤ 1
+
+-- ---- what two calls owe
+
+-- each round takes as many as it may
+abbrev pub TakeMostRunsRounds : {C : Type 0} → ℕ → (ℕ → State) → (xs : List (CutRun C)) → Option (RunsReading xs) → (Who → Bool) → List (RunsRound xs) → Type 0
+TakeMostRunsRounds many first xs o taken [] = ⊤
+TakeMostRunsRounds many first xs o taken (y ∷ ys) =
+    (IsLaterThanRead xs o y.reading × TakesMost many first taken (runs_before xs o) (runs_read xs y.reading) y.members)
+    × TakeMostRunsRounds many first xs (Some y.reading) y.members ys
+
+-- whom the last round took
+abbrev pub last_taken : {C : Type 0} (xs : List (CutRun C)) → (Who → Bool) → List (RunsRound xs) → Who → Bool
+last_taken xs taken [] = taken
+last_taken xs taken (y ∷ ys) = last_taken xs y.members ys
+
+-- A commit that was read before a call, and that no crash took back, is taken by its second round.
+abbrev pub SeenIsShownBehindRuns : Type 0 → Type 0
+SeenIsShownBehindRuns C =
+    (many : ℕ) (o : Opening) (xs : List (CutRun C)) (earlier : RunsReading xs) (x y : RunsRound xs)
+    → 1 ≤ length o.states → AllByRecursion (λ x. x.fixed.text.logs ≡ many) xs → GoOn o xs → IsLaterRead xs earlier x.reading
+    → TakeMostRunsRounds many (state_in o.states) xs None (λ z. false) (x ∷ y ∷ [])
+    → (z : Who) → is_in many (runs_read xs earlier) z ≡ true → y.members z ≡ true
+
+-- Of two calls, each reading of the second no earlier than any of the first, and nothing that was read taken back by a crash: nothing
+-- that the first took is missing in the second.
+abbrev pub CallsKnowMoreBehindRuns : Type 0 → Type 0
+CallsKnowMoreBehindRuns C =
+    (many : ℕ) (o : Opening) (xs : List (CutRun C)) (zs : List (RunsRound xs)) (last x y : RunsRound xs) (ys : List (RunsRound xs))
+    → 1 ≤ length o.states → AllByRecursion (λ x. x.fixed.text.logs ≡ many) xs → GoOn o xs
+    → TakeMostRunsRounds many (state_in o.states) xs None (λ z. false) (zs ++ last ∷ []) → IsLaterRead xs last.reading x.reading
+    → TakeMostRunsRounds many (state_in o.states) xs None (λ z. false) (x ∷ y ∷ ys)
+    → (z : Who) → last.members z ≡ true → last_taken xs (λ z. false) (x ∷ y ∷ ys) z ≡ true

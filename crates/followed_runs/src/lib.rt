@@ -5,4 +5,8 @@
 
 mod laws;
 
-pub use laws::{followers_are_in_order, followers_go_on_behind_runs, records_are_read_once};
+pub use laws::{
+    followers_are_in_order, followers_go_on_behind_runs, later_calls_know_more,
+    later_calls_know_more_behind_runs, records_are_read_once, what_was_seen_is_shown,
+    what_was_seen_is_shown_behind_runs,
+};

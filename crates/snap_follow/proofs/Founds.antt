@@ -1,6 +1,6 @@
 -- What is found in lists without a checkpoint is what a round finds.
-use Rattle.std.proofs.Common.{◌≡◌, ◌<◌, inl, inr, true, ◌↔◌, Option, Some, None, MatchOption, List, [], length, map, sym, ap, subst, ◌∙◌}
-use Rattle.std.specs.Prelude.{⊤, Contains}
+use Rattle.std.proofs.Common.{◌≡◌, ◌<◌, inl, inr, true, ◌↔◌, Option, Some, None, MatchOption, List, [], ◌∷◌, length, map, sym, ap, subst, ◌∙◌}
+use Rattle.std.specs.Prelude.{⊤, Contains, slice_get}
 use Rattle.std.specs.List.{AllByRecursion, filter}
 use Rattle.std.proofs.lemmas.List.Kept.{AllPairs-filter}
 use Rattle.snap_base.specs.declared.ids.Bid.{Bid}
@@ -8,11 +8,12 @@ use Rattle.snap_base.specs.declared.ids.Tid.{Tid}
 use Rattle.snap_base.specs.declared.transactions.State.{State}
 use Rattle.snap_base.proofs.Lists.{all_filter, weaker}
 use Rattle.txn_records.specs.declared.records.Record.{Record}
+use Rattle.txn_records.specs.declared.records.Record.TheVariants.{Genesis}
 use Rattle.txn_records.specs.declared.keys.Key.{Key}
 use Rattle.txn_records.specs.declared.keys.Key.TheVariants as keys
 use Rattle.snap_recover.specs.declared.openings.Kept.{Kept}
 use Rattle.snap_recover.specs.declared.openings.Kept.TheVariants as kept
-use Rattle.snap_recover.specs.Logs.{geneses}
+use Rattle.snap_recover.specs.Logs.{geneses, log_of}
 use Rattle.snap_recover.specs.Opening.{IsIn, IsActIn, IsKeptIn, IsCommitted, AreBegunWith, AreWhollyCommitted, ComesBefore, IsInRange, commit_of}
 use Rattle.snap_recover.proofs.Lists.{all_contains, contains_map, contains_unmap}
 use Rattle.snap_recover.proofs.OneOpening.{act_is_in}
@@ -22,13 +23,15 @@ use Rattle.snap_follow.specs.declared.refusals.FollowNo.{FollowNo}
 use Rattle.snap_follow.specs.declared.refusals.FollowNo.TheVariants.{Back, TwoGenesis, LogCount, Range, Missing, Values, Memory}
 use Rattle.snap_follow.specs.declared.rounds.Found.{Found}
 use Rattle.snap_follow.specs.Finding.{IsSettledFrom, LeavesStates, AreFoundStates, IsFound, newer_states}
-use Rattle.snap_follow.specs.Followed.{HasCommit, TakesMost, AreMembers}
-use Rattle.snap_follow.specs.Passes.{IsInSet, HasAllCommits, HasMembers, Settles, IsSettled, chosen_lists, is_member, IsNotWhole}
+use Rattle.snap_follow.specs.Followed.{HasCommit, IsFirstState, StandsAhead, TakesMost, AreMembers}
+use Rattle.snap_follow.specs.Passes.{IsInSet, HasAllCommits, HasMembers, BeginsWith, AreFirstStates, IsAheadOf, Settles, IsSettled, chosen_lists, is_member, IsNotWhole}
 use Rattle.snap_follow.specs.Refusals.{IsNotFollowed}
 use Rattle.snap_follow.specs.Rounds.{Following, HasStates, IsRound, AreInLists, GrowFrom, AreReadable, AreSeenWhole}
 use Rattle.snap_follow.proofs.Alike.{each_is, in_filter}
 use Rattle.snap_follow.proofs.AlikeLists.{chosen_alike, batches_of, acts_of, committed_is_named, commit_of_plain, commit_grown}
 use Rattle.snap_follow.proofs.AlikeTold.{in_alike, act_in_alike, kept_batch_alike, kept_act_alike, states_alike, batches_whole, acts_whole, all_valued, lacking_alike, lacking_values_alike}
+use Rattle.snap_follow.proofs.Changes.{ahead_alike}
+use Rattle.snap_follow.proofs.Decisions.{one_begun}
 use Rattle.snap_follow.proofs.Named.{named_or_not}
 
 -- ---- a set of commits that stand in the lists
@@ -97,21 +100,29 @@ members_are set logs whole there c k = (in_set, in_members)
         let on : is_member set r.0 ≡ true = named_member set r.0 (subst (IsInSet set) (sym r.2) h) in
         subst (Contains (map commit_of (filter (is_member set) whole))) r.2 (contains_map commit_of (filter (is_member set) whole) r.0 (in_filter (is_member set) whole r.0 r.1 on))
 
-takes_those : (taken_before : List Key) (before now : List (List Record)) (taken there seen set : Commits) (members : List Key)
+-- who stands ahead of whom by the set of all commits, and by the first states, does so in the lists
+ahead_of : (now : List (List Record)) (first : List State) (there : Commits) → HasAllCommits now there → AreFirstStates now first → (j k : Key) → IsAheadOf first there now j k → StandsAhead now j k
+ahead_of now first there has begun j k (a, h) = (a, ahead_alike (IsInSet there) (HasCommit now) (BeginsWith first) (IsFirstState now) has begun a j k (log_of now a) h)
+
+ahead_in : (now : List (List Record)) (first : List State) (there : Commits) → HasAllCommits now there → AreFirstStates now first → (j k : Key) → StandsAhead now j k → IsAheadOf first there now j k
+ahead_in now first there has begun j k (a, h) =
+    (a, ahead_alike (HasCommit now) (IsInSet there) (IsFirstState now) (BeginsWith first) (λ i. ((has i).1, (has i).0)) (λ b s. ((begun b s).1, (begun b s).0)) a j k (log_of now a) h)
+
+takes_those : (taken_before : List Key) (before now : List (List Record)) (first : List State) (taken there seen set : Commits) (members : List Key) → AreFirstStates now first
     → ((k : Key) → IsInSet taken k ↔ Contains taken_before k) → ((k : Key) → IsInSet seen k ↔ HasCommit before k) → ((k : Key) → Contains taken_before k → HasCommit before k) → HasAllCommits now there
-    → Settles there taken now seen set → IsSettled there taken now set → ((k : Key) → Contains members k ↔ IsInSet set k) → TakesMost taken_before before now members
-takes_those taken_before before now taken there seen set members is_taken is_seen was has settles settled are = record {
+    → Settles first there taken now seen set → IsSettled first there taken now set → ((k : Key) → Contains members k ↔ IsInSet set k) → TakesMost taken_before before now members
+takes_those taken_before before now first taken there seen set members begun is_taken is_seen was has settles settled are = record {
   may = record {
     stay = λ k t. (are k).1 (settles.stay k ((is_taken k).1 t) ((is_seen k).1 (was k t)));
     seen = λ k m new. (is_seen k).0 (settles.within k ((are k).0 m));
     rest_on = λ k j m new ahead c. elim (named_or_not set j) [
       | inl on ↦ (are j).1 on
-      | inr off ↦ absurd (settled k ((are k).0 m, λ t. new ((is_taken k).0 t)) (j, ahead, ((has j).1 c, off)))
+      | inr off ↦ absurd (settled k ((are k).0 m, λ t. new ((is_taken k).0 t)) (j, ahead_in now first there has begun j k ahead, ((has j).1 c, off)))
     ];
   };
   greatest = λ others may k o.
       (are k).1 (settles.kept others
-      (λ i j m new ahead c. may.rest_on i j m (λ t. new ((is_taken i).1 t)) ahead ((has j).0 c))
+      (λ i j m new ahead c. may.rest_on i j m (λ t. new ((is_taken i).1 t)) (ahead_of now first there has begun j i ahead) ((has j).0 c))
       (λ i m. (is_seen i).1 (elim (named_or_not taken i) [
         | inl t ↦ was i ((is_taken i).0 t)
         | inr t ↦ may.seen i m (λ c. t ((is_taken i).1 c))
@@ -196,18 +207,30 @@ seen_plain before seen h k = ((λ n. (commit_of_plain before k).1 ((h k).0 n)), 
 grown_plain : (before lists : List (List Record)) → length lists ≡ length before → 0 < length lists → GrowFrom before lists → (k : Key) → HasCommit (plain_lists before) k → HasCommit (plain_lists lists) k
 grown_plain before lists len some grow k h = (commit_of_plain lists k).1 (commit_grown before lists len some grow k ((commit_of_plain before k).0 h))
 
+-- the states that are handed on are the first ones, as far as the lists tell them
+are_first : {X : Type 0} (get : X → List State) (now : List (List Record)) (first : Option X) (begun : List State) → IsFirst get now first → MatchOption first (begun ≡ []) (λ x. begun ≡ get x) → AreFirstStates now begun
+are_first get now None begun none e a s = (
+  (λ h. let both : ◌≡◌ {A = Option State} None (Some s) = sym (ap (λ (z : List State). slice_get z a) e) ∙ h in absurd (cc both)),
+  λ h. let both : ◌≡◌ {A = List Record} [] (Genesis (length now) h.0 ∷ []) = sym none ∙ h.1.one in absurd (cc both),
+)
+are_first get now (Some x) begun b e a s = (
+  (λ h. (get x, b, sym (ap (λ (z : List State). slice_get z a) e) ∙ h)),
+  λ h. ap (λ (z : List State). slice_get z a) (e ∙ one_begun now (get x) h.0 b h.1) ∙ h.2,
+)
+
 -- the rest of them, in lists without a checkpoint
-pub record Rest {X : Type 0} (get : X → List State) (members : List Kept) (now : List (List Record)) (taken seen set : Commits) (first : Option X) (whole : List Kept) (f : Found) : Type 0 where
+pub record Rest {X : Type 0} (get : X → List State) (members : List Kept) (now : List (List Record)) (taken seen set : Commits) (first : Option X) (begun : List State) (whole : List Kept) (f : Found) : Type 0 where
   pub begins : IsFirst get now first
+  pub begun_is : MatchOption first (begun ≡ []) (λ x. begun ≡ get x)
   pub whole_is : AreWhollyCommitted (chosen_lists seen now) whole
   pub is_taken : HasMembers members taken
-  pub settled : IsSettledFrom now taken seen set
+  pub settled : IsSettledFrom now begun taken seen set
   pub states : MatchOption first (f.states ≡ None) (λ x. LeavesStates set now (get x) f.states)
   pub those : f.members ≡ filter (is_member set) whole
 
-found_plain : {X : Type 0} (get : X → List State) (before : List (List Record)) (members : List Kept) (lists : List (List Record)) (taken seen set : Commits) (first : Option X) (whole : List Kept) (f : Found)
-    → Parts before members lists (plain_lists lists) seen → Rest get members (plain_lists lists) taken seen set first whole f → IsFound before members lists f
-found_plain get before members lists taken seen set first whole f p h =
+found_plain : {X : Type 0} (get : X → List State) (before : List (List Record)) (members : List Kept) (lists : List (List Record)) (taken seen set : Commits) (first : Option X) (begun : List State) (whole : List Kept) (f : Found)
+    → Parts before members lists (plain_lists lists) seen → Rest get members (plain_lists lists) taken seen set first begun whole f → IsFound before members lists f
+found_plain get before members lists taken seen set first begun whole f p h =
     let is_seen = seen_plain before seen p.is_seen in
     let grown = grown_plain before lists p.as_many p.some p.grow in
     let seen_there : (k : Key) → IsInSet seen k → HasCommit (plain_lists lists) k = λ k n. grown k ((is_seen k).0 n) in
@@ -217,7 +240,7 @@ found_plain get before members lists taken seen set first whole f p h =
     let are = members_are set (chosen_lists seen (plain_lists lists)) whole chosen_there h.whole_is.committed in
     let was : (k : Key) → Contains (map commit_of members) k → HasCommit (plain_lists before) k = λ k c. (commit_of_plain before k).1 (p.are_in k c) in
     let taken_so : TakesMost (map commit_of members) (plain_lists before) (plain_lists lists) (map commit_of (filter (is_member set) whole)) =
-    takes_those (map commit_of members) (plain_lists before) (plain_lists lists) taken h.settled.there seen set (map commit_of (filter (is_member set) whole)) h.is_taken is_seen was h.settled.has h.settled.settles h.settled.settled are in
+    takes_those (map commit_of members) (plain_lists before) (plain_lists lists) begun taken h.settled.there seen set (map commit_of (filter (is_member set) whole)) (are_first get (plain_lists lists) first begun h.begins h.begun_is) h.is_taken is_seen was h.settled.has h.settled.settles h.settled.settled are in
     let all_kept : AllByRecursion (IsKeptIn (plain_lists lists)) (filter (is_member set) whole) =
     all_filter (IsKeptIn (plain_lists lists)) (is_member set) whole (kept_there seen (plain_lists lists) whole h.whole_is.committed.each) in
     record {
@@ -231,11 +254,11 @@ found_plain get before members lists taken seen set first whole f p h =
       are_in = subst (AreInLists lists) (sym h.those) (λ k c. (commit_of_plain lists k).0 (there k ((are k).0 c)));
     }
 
-pub is_found : {X : Type 0} (get : X → List State) (before : List (List Record)) (members : List Kept) (lists now : List (List Record)) (taken seen set : Commits) (first : Option X) (whole : List Kept) (f : Found)
-    → Parts before members lists now seen → Rest get members now taken seen set first whole f → IsFound before members lists f
-is_found get before members lists now taken seen set first whole f p h =
-    found_plain get before members lists taken seen set first whole f (subst (λ (z : List (List Record)). Parts before members lists z seen) p.is_plain p)
-    (subst (λ (z : List (List Record)). Rest get members z taken seen set first whole f) p.is_plain h)
+pub is_found : {X : Type 0} (get : X → List State) (before : List (List Record)) (members : List Kept) (lists now : List (List Record)) (taken seen set : Commits) (first : Option X) (begun : List State) (whole : List Kept) (f : Found)
+    → Parts before members lists now seen → Rest get members now taken seen set first begun whole f → IsFound before members lists f
+is_found get before members lists now taken seen set first begun whole f p h =
+    found_plain get before members lists taken seen set first begun whole f (subst (λ (z : List (List Record)). Parts before members lists z seen) p.is_plain p)
+    (subst (λ (z : List (List Record)). Rest get members z taken seen set first begun whole f) p.is_plain h)
 
 -- ---- refusals
 

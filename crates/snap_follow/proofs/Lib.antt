@@ -5,13 +5,15 @@ mod AlikeLists
 mod PlainCopies
 mod Chosen
 mod Named
+pub mod Changes
+mod Deciding
+mod Held
 mod Leaving
-mod Noted
 mod Settled
 mod OrderingEdges
 mod Founds
 mod Fronts
-mod Deciding
+mod Decisions
 mod Taking
 mod TwoRounds
 mod RecoveredStates

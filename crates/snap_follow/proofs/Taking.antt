@@ -9,77 +9,83 @@ use Rattle.txn_records.specs.declared.keys.Key.{Key}
 use Rattle.txn_records.specs.declared.keys.Key.TheVariants as keys
 use Rattle.txn_records.specs.Records.{key}
 use Rattle.snap_recover.specs.Logs.{all_of, log_of, actors_in}
-use Rattle.snap_recover.proofs.Lists.{all_contains, contains_append, contains_cases, contains_here, contains_there, contains_none, contains_left, contains_right, contains_middle, contains_map, contains_unmap}
-use Rattle.snap_follow.specs.Followed.{HasCommit, Tells, StandsAhead, MayTake}
+use Rattle.snap_recover.proofs.Lists.{all_contains, contains_append, contains_cases, contains_here, contains_none, contains_left, contains_right, contains_middle, contains_map, contains_unmap}
+use Rattle.snap_follow.specs.Followed.{HasCommit, Tells, IsAnother, IsFirstState, StandsAhead, MayTake}
 use Rattle.snap_follow.specs.Laws.{OneTaking, SomeTaking}
-use Rattle.snap_follow.proofs.Deciding.{Decided, same_number, among, has_commit, tells, all_decided, those, those_are, are_those, all_or_fewer}
+use Rattle.snap_follow.proofs.Changes.{tells_one}
+use Rattle.snap_follow.proofs.Deciding.{Decided, among, has_commit, tells, all_decided, those, those_are, are_those, all_or_fewer}
+use Rattle.snap_follow.proofs.Decisions.{Found, told_by, another_now}
 
--- ---- what one rests on, along a list
-
--- the record, where it is of the actor and its commit is there, is one of these
-abbrev pub IsOf : List (List Record) → List Key → ℕ → Record → Type 0
-IsOf now ks a r = (j : Key) → Tells a j r → HasCommit now j → Contains ks j
-
-is_of : (now : List (List Record)) (ks : List Key) (a : ℕ) (r : Record) → Decided (IsOf now ks a r)
-is_of now ks a (Genesis count states) = inl (λ j h c. absurd h)
-is_of now ks a (BatchInfo bid actors tids) = inl (λ j h c. absurd h)
-is_of now ks a (BatchComplete bid actor state) = by (same_number actor.0 a) (has_commit now (keys.Commit bid)) (among ks (keys.Commit bid))
-  where
-    by : Decided (actor.0 ≡ a) → Decided (HasCommit now (keys.Commit bid)) → Decided (Contains ks (keys.Commit bid)) → Decided (IsOf now ks a (BatchComplete bid actor state))
-    by (inr e) c m = inl (λ j h i. absurd (e h.0))
-    by (inl e) (inr c) m = inl (λ j h i. absurd (c (subst (HasCommit now) h.1 i)))
-    by (inl e) (inl c) (inl m) = inl (λ j h i. subst (Contains ks) (sym h.1) m)
-    by (inl e) (inl c) (inr m) = inr (λ q. m (q (keys.Commit bid) (e, refl) c))
-is_of now ks a (BatchCommit bid) = inl (λ j h c. absurd h)
-is_of now ks a (ActPrepare tid actor state) = by (same_number actor.0 a) (has_commit now (keys.Act tid)) (among ks (keys.Act tid))
-  where
-    by : Decided (actor.0 ≡ a) → Decided (HasCommit now (keys.Act tid)) → Decided (Contains ks (keys.Act tid)) → Decided (IsOf now ks a (ActPrepare tid actor state))
-    by (inr e) c m = inl (λ j h i. absurd (e h.0))
-    by (inl e) (inr c) m = inl (λ j h i. absurd (c (subst (HasCommit now) h.1 i)))
-    by (inl e) (inl c) (inl m) = inl (λ j h i. subst (Contains ks) (sym h.1) m)
-    by (inl e) (inl c) (inr m) = inr (λ q. m (q (keys.Act tid) (e, refl) c))
-is_of now ks a (ActCommit tid m c actors) = inl (λ j h c. absurd h)
-is_of now ks a (BatchDone bid values) = inl (λ j h c. absurd h)
-is_of now ks a (ActDone tid m c value actors) = inl (λ j h c. absurd h)
-is_of now ks a (Checkpoint generation next_tid next_bid next_c batches acts states) = inl (λ j h c. absurd h)
-
--- ahead of each of its records
-pub Fine : List (List Record) → List Key → ℕ → Key → List Record → List Record → Type 0
-Fine now ks a k front [] = Unit {0}
-Fine now ks a k front (r ∷ rs) = (Tells a k r → AllByRecursion (IsOf now ks a) front) × Fine now ks a k (front ++ r ∷ []) rs
-
-fine : (now : List (List Record)) (ks : List Key) (a : ℕ) (k : Key) (front rs : List Record) → Decided (Fine now ks a k front rs)
-unfolding Fine
-fine now ks a k front [] = inl tt
-fine now ks a k front (r ∷ rs) = by (tells a k r) (all_decided (IsOf now ks a) front (is_of now ks a)) (fine now ks a k (front ++ r ∷ []) rs)
-  where
-    by : Decided (Tells a k r) → Decided (AllByRecursion (IsOf now ks a) front) → Decided (Fine now ks a k (front ++ r ∷ []) rs) → Decided ((Tells a k r → AllByRecursion (IsOf now ks a) front) × Fine now ks a k (front ++ r ∷ []) rs)
-    by t f (inr n) = inr (λ q. n q.1)
-    by (inr t) f (inl n) = inl ((λ q. absurd (t q)), n)
-    by (inl t) (inl f) (inl n) = inl ((λ q. f), n)
-    by (inl t) (inr f) (inl n) = inr (λ q. f (q.0 t))
+-- ---- at each place of a list
 
 join_one : {X : Type 0} (xs : List X) (y : X) (ys : List X) → (xs ++ y ∷ []) ++ ys ≡ xs ++ y ∷ ys
 join_one [] y ys = refl
 join_one (x ∷ xs) y ys = ap (λ z. x ∷ z) (join_one xs y ys)
 
-fine_at : (now : List (List Record)) (ks : List Key) (a : ℕ) (k : Key) (before rs front : List Record) (own : Record) (rest : List Record) → Fine now ks a k before rs → rs ≡ front ++ own ∷ rest → Tells a k own → AllByRecursion (IsOf now ks a) (before ++ front)
-unfolding Fine
-fine_at now ks a k before [] [] own rest f e t = absurd (cc e)
-fine_at now ks a k before [] (x ∷ front) own rest f e t = absurd (cc e)
-fine_at now ks a k before (r ∷ rs) [] own rest f e t = let i : r ≡ own = cc e in subst (AllByRecursion (IsOf now ks a)) (sym (append-nil before)) (f.0 (subst (Tells a k) (sym i) t))
-fine_at now ks a k before (r ∷ rs) (x ∷ front) own rest f e t =
+-- it holds of what stands before each record, and of the record
+pub AtEach : (List Record → Record → Type 0) → List Record → List Record → Type 0
+AtEach P before [] = Unit {0}
+AtEach P before (r ∷ rs) = P before r × AtEach P (before ++ r ∷ []) rs
+
+at_each : (P : List Record → Record → Type 0) → ((front : List Record) (r : Record) → Decided (P front r)) → (before rs : List Record) → Decided (AtEach P before rs)
+unfolding AtEach
+at_each P d before [] = inl tt
+at_each P d before (r ∷ rs) = by (d before r) (at_each P d (before ++ r ∷ []) rs)
+  where
+    by : Decided (P before r) → Decided (AtEach P (before ++ r ∷ []) rs) → Decided (P before r × AtEach P (before ++ r ∷ []) rs)
+    by (inl p) (inl h) = inl (p, h)
+    by (inr p) h = inr (λ q. p q.0)
+    by (inl p) (inr h) = inr (λ q. h q.1)
+
+at_split : (P : List Record → Record → Type 0) (before rs front : List Record) (own : Record) (rest : List Record) → AtEach P before rs → rs ≡ front ++ own ∷ rest → P (before ++ front) own
+unfolding AtEach
+at_split P before [] [] own rest f e = absurd (cc e)
+at_split P before [] (x ∷ front) own rest f e = absurd (cc e)
+at_split P before (r ∷ rs) [] own rest f e = let i : r ≡ own = cc e in subst (λ z. P z own) (sym (append-nil before)) (subst (P before) i f.0)
+at_split P before (r ∷ rs) (x ∷ front) own rest f e =
     let i : r ≡ x = cc e in
     let tail : rs ≡ front ++ own ∷ rest = cc e in
-    subst (λ z. AllByRecursion (IsOf now ks a) (before ++ z ∷ front)) i (subst (AllByRecursion (IsOf now ks a)) (join_one before r front) (fine_at now ks a k (before ++ r ∷ []) rs front own rest f.1 tail t))
+    subst (λ z. P (before ++ z ∷ front) own) i (subst (λ z. P z own) (join_one before r front) (at_split P (before ++ r ∷ []) rs front own rest f.1 tail))
 
-fine_from : (now : List (List Record)) (ks : List Key) (a : ℕ) (k : Key) (before rs : List Record) → ((front : List Record) (own : Record) (rest : List Record) → rs ≡ front ++ own ∷ rest → Tells a k own → AllByRecursion (IsOf now ks a) (before ++ front)) → Fine now ks a k before rs
-unfolding Fine
-fine_from now ks a k before [] h = tt
-fine_from now ks a k before (r ∷ rs) h = (
-  (λ t. subst (AllByRecursion (IsOf now ks a)) (append-nil before) (h [] r rs refl t)),
-  fine_from now ks a k (before ++ r ∷ []) rs (λ front own rest e t. subst (AllByRecursion (IsOf now ks a)) (sym (join_one before r front)) (h (r ∷ front) own rest (ap (λ z. r ∷ z) e) t)),
+from_splits : (P : List Record → Record → Type 0) (before rs : List Record) → ((front : List Record) (own : Record) (rest : List Record) → rs ≡ front ++ own ∷ rest → P (before ++ front) own) → AtEach P before rs
+unfolding AtEach
+from_splits P before [] h = tt
+from_splits P before (r ∷ rs) h = (
+  subst (λ z. P z r) (append-nil before) (h [] r rs refl),
+  from_splits P (before ++ r ∷ []) rs (λ front own rest e. subst (λ z. P z own) (sym (join_one before r front)) (h (r ∷ front) own rest (ap (λ z. r ∷ z) e))),
 )
+
+-- ---- what one rests on, along a list
+
+-- the record, where it changes the actor and its commit is there, is one of these
+abbrev pub IsOf : List (List Record) → List Key → ℕ → List Record → Record → Type 0
+IsOf now ks a front r = (j : Key) → Tells a j r → HasCommit now j → IsAnother (HasCommit now) (IsFirstState now) a front r → Contains ks j
+
+is_of : (now : List (List Record)) (ks : List Key) (a : ℕ) (front : List Record) (r : Record) → Decided (IsOf now ks a front r)
+is_of now ks a front r = by (told_by a r)
+  where
+    at : (k : Key) → Tells a k r → Decided (HasCommit now k) → Decided (IsAnother (HasCommit now) (IsFirstState now) a front r) → Decided (Contains ks k) → Decided (IsOf now ks a front r)
+    at k t c n (inl m) = inl (λ j h i o. subst (Contains ks) (tells_one a a k j r t h).1 m)
+    at k t (inr c) n (inr m) = inl (λ j h i o. absurd (c (subst (HasCommit now) (sym (tells_one a a k j r t h).1) i)))
+    at k t (inl c) (inr n) (inr m) = inl (λ j h i o. absurd (n o))
+    at k t (inl c) (inl n) (inr m) = inr (λ q. m (q k t c n))
+
+    by : Found (λ (k : Key). Tells a k r) → Decided (IsOf now ks a front r)
+    by (inl (k, t)) = at k t (has_commit now k) (another_now now a front r) (among ks k)
+    by (inr none) = inl (λ j h i o. absurd (none j h))
+
+-- ahead of each of its records
+pub Fine : List (List Record) → List Key → ℕ → Key → List Record → Record → Type 0
+Fine now ks a k front r = Tells a k r → AtEach (IsOf now ks a) [] front
+
+fine : (now : List (List Record)) (ks : List Key) (a : ℕ) (k : Key) (front : List Record) (r : Record) → Decided (Fine now ks a k front r)
+unfolding Fine
+fine now ks a k front r = by (tells a k r) (at_each (IsOf now ks a) (is_of now ks a) [] front)
+  where
+    by : Decided (Tells a k r) → Decided (AtEach (IsOf now ks a) [] front) → Decided (Tells a k r → AtEach (IsOf now ks a) [] front)
+    by (inr t) f = inl (λ q. absurd (t q))
+    by (inl t) (inl f) = inl (λ q. f)
+    by (inl t) (inr f) = inr (λ q. f (q t))
 
 -- ---- over all actors that occur
 
@@ -87,11 +93,11 @@ abbrev pub actors_of : List (List Record) → List ℕ
 actors_of now = flat_map actors_in (all_of now)
 
 pub Rests : List (List Record) → List Key → Key → Type 0
-Rests now ks k = AllByRecursion (λ a. Fine now ks a k [] (log_of now a)) (actors_of now)
+Rests now ks k = AllByRecursion (λ a. AtEach (Fine now ks a k) [] (log_of now a)) (actors_of now)
 
 rests : (now : List (List Record)) (ks : List Key) (k : Key) → Decided (Rests now ks k)
 unfolding Rests
-rests now ks k = all_decided (λ a. Fine now ks a k [] (log_of now a)) (actors_of now) (λ a. fine now ks a k [] (log_of now a))
+rests now ks k = all_decided (λ a. AtEach (Fine now ks a k) [] (log_of now a)) (actors_of now) (λ a. at_each (Fine now ks a k) (fine now ks a k) [] (log_of now a))
 
 flat_left : {X Y : Type 0} (f : X → List Y) (xs : List X) (x : X) (y : Y) → Contains xs x → Contains (f x) y → Contains (flat_map f xs) y
 flat_left f [] x y h g = absurd (contains_none x h)
@@ -120,27 +126,34 @@ told_actor a k (ActDone tid m c value actors) h = absurd h
 told_actor a k (Checkpoint generation next_tid next_bid next_c batches acts states) h = absurd h
 
 rests_are : (now : List (List Record)) (ks : List Key) (k j : Key) → Rests now ks k → StandsAhead now j k → HasCommit now j → Contains ks j
-unfolding Rests
+unfolding Rests Fine
 rests_are now ks k j h (a, s) c =
     let own : Contains (log_of now a) s.own = subst (λ z. Contains z s.own) (sym s.splits) (contains_middle s.front s.own s.behind) in
     let named : Contains (actors_of now) a = flat_left actors_in (all_of now) s.own a (in_all now a s.own own) (told_actor a k s.own s.is_own) in
-    let f = fine_at now ks a k [] (log_of now a) s.front s.own s.behind (all_contains (λ b. Fine now ks b k [] (log_of now b)) (actors_of now) a h named) s.splits s.is_own in
-    all_contains (IsOf now ks a) s.front s.ahead.0 f s.ahead.1 j s.ahead.2 c
+    let here = all_contains (λ b. AtEach (Fine now ks b k) [] (log_of now b)) (actors_of now) a h named in
+    let ahead : AtEach (IsOf now ks a) [] s.front = at_split (Fine now ks a k) [] (log_of now a) s.front s.own s.behind here s.splits s.is_own in
+    at_split (IsOf now ks a) [] s.front s.ahead.front s.ahead.own s.ahead.behind ahead s.ahead.splits j s.ahead.is_own c s.ahead.another
 
 are_rests : (now : List (List Record)) (ks : List Key) (k : Key) → ((j : Key) → StandsAhead now j k → HasCommit now j → Contains ks j) → Rests now ks k
-unfolding Rests
+unfolding Rests Fine
 are_rests now ks k h = each (actors_of now)
   where
-    at : (a : ℕ) (front : List Record) (own : Record) (rest : List Record) → log_of now a ≡ front ++ own ∷ rest → Tells a k own → AllByRecursion (IsOf now ks a) front
-    at a front own rest e t = all front (λ r i. λ j q c. h j (a, record { front = front; own = own; behind = rest; splits = e; is_own = t; ahead = (r, i, q) }) c)
-      where
-        all : (xs : List Record) → ((r : Record) → Contains xs r → IsOf now ks a r) → AllByRecursion (IsOf now ks a) xs
-        all [] g = tt
-        all (x ∷ xs) g = (g x (contains_here x xs), all xs (λ r i. g r (contains_there x r xs i)))
+    at : (a : ℕ) (front : List Record) (own : Record) (rest : List Record) → log_of now a ≡ front ++ own ∷ rest → Fine now ks a k front own
+    at a front own rest e t = from_splits (IsOf now ks a) [] front (λ before r behind f j q c n. h j (
+      a,
+      record {
+        front = front;
+        own = own;
+        behind = rest;
+        splits = e;
+        is_own = t;
+        ahead = record { front = before; own = r; behind = behind; splits = f; is_own = q; another = n };
+      },
+    ) c)
 
-    each : (ns : List ℕ) → AllByRecursion (λ a. Fine now ks a k [] (log_of now a)) ns
+    each : (ns : List ℕ) → AllByRecursion (λ a. AtEach (Fine now ks a k) [] (log_of now a)) ns
     each [] = tt
-    each (a ∷ ns) = (fine_from now ks a k [] (log_of now a) (at a), each ns)
+    each (a ∷ ns) = (from_splits (Fine now ks a k) [] (log_of now a) (at a), each ns)
 
 -- ---- left out again and again
 

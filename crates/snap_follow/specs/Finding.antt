@@ -16,11 +16,11 @@ use Rattle.snap_follow.specs.Passes.{IsSettled, Settles, HasAllCommits, chosen_l
 -- ---- in lists without a checkpoint
 
 -- of the seen commits the set has all but those that rest on somebody who is left out
-pub record IsSettledFrom (now : List (List Record)) (taken seen set : Commits) : Type 0 where
+pub record IsSettledFrom (now : List (List Record)) (first : List State) (taken seen set : Commits) : Type 0 where
   pub there : Commits
   pub has : HasAllCommits now there
-  pub settles : Settles there taken now seen set
-  pub settled : IsSettled there taken now set
+  pub settles : Settles first there taken now seen set
+  pub settled : IsSettled first there taken now set
 
 -- the states that are found are those that the commits of the set leave
 abbrev pub LeavesStates : Commits → List (List Record) → List State → Option (List State) → Type 0

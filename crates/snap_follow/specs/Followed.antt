@@ -1,6 +1,6 @@
 -- Whom a follower of growing logs takes, round by round, and which states they leave. A round reads lists of records, one for each log,
 -- and knows what the round before read. A commit is told by the key of its record.
-use Rattle.std.specs.Prelude.{◌≡◌, ℕ, ◌⊎◌, List, [], ◌∷◌, ◌++◌, map, Contains}
+use Rattle.std.specs.Prelude.{◌≡◌, ℕ, ◌⊎◌, Some, List, [], ◌∷◌, ◌++◌, map, slice_get, Contains}
 use Rattle.std.specs.List.{AllByRecursion, AllZip, AllPairs, enumerate_from}
 use Rattle.snap_base.specs.declared.transactions.State.{State}
 use Rattle.txn_records.specs.declared.records.Record.{Record}
@@ -9,7 +9,7 @@ use Rattle.txn_records.specs.declared.keys.Key.{Key}
 use Rattle.txn_records.specs.declared.keys.Key.TheVariants as keys
 use Rattle.snap_recover.specs.declared.openings.Kept.{Kept}
 use Rattle.snap_recover.specs.Logs.{log_of, IsLastOf, states_in}
-use Rattle.snap_recover.specs.Opening.{IsIn, IsActIn, IsKeptIn, ComesBefore, commit_of}
+use Rattle.snap_recover.specs.Opening.{IsIn, IsActIn, IsKeptIn, ComesBefore, AreBegunWith, commit_of}
 
 -- ---- records
 
@@ -35,22 +35,50 @@ Tells a k (BatchDone bid values) = ⊥
 Tells a k (ActDone tid m c value actors) = ⊥
 Tells a k (Checkpoint generation next_tid next_bid next_c batches acts states) = ⊥
 
--- one of these records does
-abbrev pub HasTold : ℕ → Key → List Record → Type 0
-HasTold a k rs = (r : Record) × Contains rs r × Tells a k r
+-- ---- who stands ahead of whom
 
--- of these records one tells a state of the actor, of this one, ahead of a record that tells a state of it of that one
-pub record TellsAhead (a : ℕ) (this that : Key) (rs : List Record) : Type 0 where
+-- the record tells a state of the actor, of one that counts
+abbrev pub TellsOf : (Key → Type 0) → ℕ → Record → Type 0
+TellsOf Counts a r = (k : Key) × Counts k × Tells a k r
+
+-- The actor has this state behind these records: that of the last of them that tells one of it, of one that counts, and where none does
+-- the state with which it begins.
+abbrev pub IsLeftBy : (Key → Type 0) → (ℕ → State → Type 0) → ℕ → List Record → State → Type 0
+IsLeftBy Counts Begins a rs s =
+    ((r : Record) × (states_in r ≡ s ∷ []) × IsLastOf (TellsOf Counts a) rs r)
+    ⊎ (AllByRecursion (λ r. ¬ TellsOf Counts a r) rs × Begins a s)
+
+-- the record tells another state than the actor has behind these records
+abbrev pub IsAnother : (Key → Type 0) → (ℕ → State → Type 0) → ℕ → List Record → Record → Type 0
+IsAnother Counts Begins a front r = (s : State) → IsLeftBy Counts Begins a front s → ¬ (states_in r ≡ s ∷ [])
+
+-- Of these records one of this one changes the actor: it tells another state of it than it has behind the records before.
+pub record HasChanged (Counts : Key → Type 0) (Begins : ℕ → State → Type 0) (a : ℕ) (this : Key) (rs : List Record) : Type 0 where
+  pub front : List Record
+  pub own : Record
+  pub behind : List Record
+  pub splits : rs ≡ front ++ own ∷ behind
+  pub is_own : Tells a this own
+  pub another : IsAnother Counts Begins a front own
+
+-- of these records one of this one changes the actor ahead of a record that tells a state of it of that one
+pub record ChangesAhead (Counts : Key → Type 0) (Begins : ℕ → State → Type 0) (a : ℕ) (this that : Key) (rs : List Record) : Type 0 where
   pub front : List Record
   pub own : Record
   pub behind : List Record
   pub splits : rs ≡ front ++ own ∷ behind
   pub is_own : Tells a that own
-  pub ahead : HasTold a this front
+  pub ahead : HasChanged Counts Begins a this front
 
--- In the log of some actor this one has a record ahead of one of that one's.
+-- the lists began with this state of the actor
+abbrev pub IsFirstState : List (List Record) → ℕ → State → Type 0
+IsFirstState logs a s = (first : List State) × AreBegunWith logs first × (slice_get first a ≡ Some s)
+
+-- This one stands ahead of that one on some actor: a record of this one changes the actor, as it tells another state than the last record
+-- before it of one whose commit is there, or than the first state; and a record of that one comes behind. Who left an actor as it was
+-- stands ahead of nobody there.
 abbrev pub StandsAhead : List (List Record) → Key → Key → Type 0
-StandsAhead logs this that = (a : ℕ) × TellsAhead a this that (log_of logs a)
+StandsAhead logs this that = (a : ℕ) × ChangesAhead (HasCommit logs) (IsFirstState logs) a this that (log_of logs a)
 
 -- ---- whom a round takes
 

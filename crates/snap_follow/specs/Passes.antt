@@ -1,10 +1,13 @@
 -- Only private contracts cite this; the rules are specs/Followed.antt and specs/Rounds.antt.
-use Rattle.std.specs.Prelude.{⊤, IsTrue, ◌≡◌, ◌≢◌, ◌↔◌, ◌<◌, ◌≤◌, ℕ, ◌+◌, ◌%◌, ◌⊎◌, Bool, true, false, List, filter, length, map, Contains}
+use Rattle.std.specs.Prelude.{⊤, IsTrue, ◌≡◌, ◌≢◌, ◌↔◌, ◌<◌, ◌≤◌, ℕ, ◌+◌, ◌%◌, ◌⊎◌, Bool, true, false, Option, Some, List, [], ◌∷◌, filter, length, map, slice_get, Contains}
+use Rattle.std.specs.Option.{option_or}
+use Rattle.std.specs.BTreeMap.{BTreeMap, get}
 use Rattle.std.specs.BTreeSet as bag
 use Rattle.std.specs.BTreeSet.{BTreeSet}
 use Rattle.std.specs.Ordering.{nat_cmp}
 use Rattle.snap_base.specs.declared.ids.Bid.{Bid}
 use Rattle.snap_base.specs.declared.ids.Tid.{Tid}
+use Rattle.snap_base.specs.declared.transactions.State.{State}
 use Rattle.txn_records.specs.declared.records.Record.{Record}
 use Rattle.txn_records.specs.declared.records.Record.TheVariants.{Genesis, BatchInfo, BatchComplete, BatchCommit, ActPrepare, ActCommit, BatchDone, ActDone, Checkpoint}
 use Rattle.txn_records.specs.declared.keys.Key.{Key}
@@ -12,13 +15,14 @@ use Rattle.txn_records.specs.declared.keys.Key.TheVariants as keys
 use Rattle.snap_recover.specs.declared.openings.Kept.{Kept}
 use Rattle.snap_recover.specs.declared.openings.Kept.TheVariants as kept
 use Rattle.snap_recover.specs.declared.refusals.RecoverNo.TheVariants as recovery
+use Rattle.snap_recover.specs.Logs.{log_of, states_in}
 use Rattle.snap_recover.specs.Opening.{commit_of}
 use Rattle.snap_recover.specs.Passes.{AddsKeyed}
 use Rattle.snap_recover.specs.Refusals.{IsLack, IsRefused}
 use Rattle.snap_follow.specs.declared.commits.Commits.{Commits}
 use Rattle.snap_follow.specs.declared.refusals.FollowNo.{FollowNo}
 use Rattle.snap_follow.specs.declared.refusals.FollowNo.TheVariants.{Back, TwoGenesis, LogCount, Range, Missing, Values, Memory}
-use Rattle.snap_follow.specs.Followed.{HasCommit, Tells, HasTold, TellsAhead, StandsAhead}
+use Rattle.snap_follow.specs.Followed.{HasCommit, Tells, TellsOf, IsLeftBy, HasChanged, ChangesAhead, IsFirstState}
 
 -- ---- sets of commits
 
@@ -87,6 +91,42 @@ abbrev pub AddsActs : ℕ → ℕ → List Record → Commits → Commits → Ty
 AddsActs log logs rs old new =
     AddsKeyed (λ (t : Tid). t.0 % logs ≡ log) (λ t. keys.Act t) rs (λ t. IsInSet old (keys.Act t)) (λ t. IsInSet new (keys.Act t))
 
+-- ---- the states that the committed ones leave, in one log
+
+-- the actor begins with this state
+abbrev pub BeginsWith : List State → ℕ → State → Type 0
+BeginsWith first a s = slice_get first a ≡ Some s
+
+-- with these the lists begin, as far as they tell it
+abbrev pub AreFirstStates : List (List Record) → List State → Type 0
+AreFirstStates now first = (a : ℕ) (s : State) → BeginsWith first a s ↔ IsFirstState now a s
+
+-- the state that is noted of the actor, or where there is none the one with which it begins
+abbrev pub held_state : List State → BTreeMap ℕ State → ℕ → Option State
+held_state first states a = option_or (get nat_cmp states a) (slice_get first a)
+
+abbrev pub IsHeld : List State → BTreeMap ℕ State → ℕ → State → Type 0
+IsHeld first states a s = held_state first states a ≡ Some s
+
+-- of the actors whose log this is those are held that the committed ones left behind these records
+abbrev pub HoldsStates : List State → Commits → ℕ → ℕ → List Record → BTreeMap ℕ State → Type 0
+HoldsStates first there log logs rs states = (a : ℕ) (s : State) →
+    a % logs ≡ log → IsHeld first states a s ↔ IsLeftBy (IsInSet there) (BeginsWith first) a rs s
+
+-- this state is held of the actor from here on, where this one is committed
+abbrev pub HoldsOwn : List State → Commits → Key → ℕ → State → BTreeMap ℕ State → BTreeMap ℕ State → Type 0
+HoldsOwn first there k a s old new = (b : ℕ) (t : State) →
+    IsHeld first new b t ↔ ((IsInSet there k × (a ≡ b) × (s ≡ t)) ⊎ (¬ (IsInSet there k × (a ≡ b)) × IsHeld first old b t))
+
+-- the state that the record tells is, of a committed one
+abbrev pub NotesStates : List State → Commits → ℕ → ℕ → Record → BTreeMap ℕ State → BTreeMap ℕ State → Type 0
+NotesStates first there log logs r old new = (a : ℕ) (t : State) → a % logs ≡ log →
+    IsHeld first new a t ↔ (((states_in r ≡ t ∷ []) × TellsOf (IsInSet there) a r) ⊎ (¬ TellsOf (IsInSet there) a r × IsHeld first old a t))
+
+-- the record tells another state than is held of the actor
+abbrev pub TellsAnother : List State → BTreeMap ℕ State → ℕ → Record → Type 0
+TellsAnother first states a r = (s : State) → IsHeld first states a s → ¬ (states_in r ≡ s ∷ [])
+
 -- ---- those that rest on others
 
 -- committed in this round's lists, and not in the set
@@ -97,54 +137,74 @@ IsLeftOut there set j = IsInSet there j × ¬ IsInSet set j
 abbrev pub IsNewcomer : Commits → Commits → Key → Type 0
 IsNewcomer taken set k = IsInSet set k × ¬ IsInSet taken k
 
--- in these records of the actor's log one that is left out stands ahead of this one
-abbrev pub RestsIn : Commits → Commits → ℕ → List Record → Key → Type 0
-RestsIn there set a rs k = (j : Key) × TellsAhead a j k rs × IsLeftOut there set j
+-- in these records of the actor's log one changes the actor ahead of the other
+abbrev pub IsAheadIn : List State → Commits → ℕ → Key → Key → List Record → Type 0
+IsAheadIn first there a j k rs = ChangesAhead (IsInSet there) (BeginsWith first) a j k rs
 
--- one that is left out tells a state of the actor
-abbrev pub IsBlocked : Commits → Commits → ℕ → List Record → Type 0
-IsBlocked there set a rs = (j : Key) × HasTold a j rs × IsLeftOut there set j
+-- in these records of the actor's log it changes the actor
+abbrev pub ChangesIn : List State → Commits → ℕ → Key → List Record → Type 0
+ChangesIn first there a j rs = HasChanged (IsInSet there) (BeginsWith first) a j rs
+
+-- in these records of the actor's log one that is left out stands ahead of this one
+abbrev pub RestsIn : List State → Commits → Commits → ℕ → List Record → Key → Type 0
+RestsIn first there set a rs k = (j : Key) × IsAheadIn first there a j k rs × IsLeftOut there set j
+
+-- one that is left out changes the actor
+abbrev pub IsBlocked : List State → Commits → Commits → ℕ → List Record → Type 0
+IsBlocked first there set a rs = (j : Key) × ChangesIn first there a j rs × IsLeftOut there set j
 
 -- of the actors whose log this is the set has those that are blocked
-abbrev pub HasBlocked : Commits → Commits → ℕ → ℕ → List Record → BTreeSet ℕ → Type 0
-HasBlocked there set log logs rs blocked = (a : ℕ) → In blocked a ↔ ((a % logs ≡ log) × IsBlocked there set a rs)
+abbrev pub HasBlocked : List State → Commits → Commits → ℕ → ℕ → List Record → BTreeSet ℕ → Type 0
+HasBlocked first there set log logs rs blocked = (a : ℕ) → In blocked a ↔ ((a % logs ≡ log) × IsBlocked first there set a rs)
 
 -- the new ones that rest on one that is left out, in these records of log `log` of `logs`, are added
-abbrev pub AddsLeaving : Commits → Commits → Commits → ℕ → ℕ → List Record → List Key → List Key → Type 0
-AddsLeaving there taken set log logs rs old new = (k : Key) →
-    Contains new k ↔ (Contains old k ⊎ (IsNewcomer taken set k × ((a : ℕ) × (a % logs ≡ log) × RestsIn there set a rs k)))
+abbrev pub AddsLeaving : List State → Commits → Commits → Commits → ℕ → ℕ → List Record → List Key → List Key → Type 0
+AddsLeaving first there taken set log logs rs old new = (k : Key) →
+    Contains new k ↔ (Contains old k ⊎ (IsNewcomer taken set k × ((a : ℕ) × (a % logs ≡ log) × RestsIn first there set a rs k)))
 
--- the one whose record this is is added, where it is new and its actor blocked
+-- this one is added, where it is new and the actor blocked
+abbrev pub LeavesBlocked : Commits → Commits → Key → ℕ → BTreeSet ℕ → List Key → List Key → Type 0
+LeavesBlocked taken set k a blocked old new = (j : Key) → Contains new j ↔ (Contains old j ⊎ ((k ≡ j) × IsNewcomer taken set k × In blocked a))
+
+-- the same, of the one whose record this is
 abbrev pub NotesLeaving : Commits → Commits → ℕ → ℕ → Record → BTreeSet ℕ → List Key → List Key → Type 0
 NotesLeaving taken set log logs r blocked old new = (k : Key) →
     Contains new k ↔ (Contains old k ⊎ (IsNewcomer taken set k × ((a : ℕ) × (a % logs ≡ log) × Tells a k r × In blocked a)))
 
--- its actor is blocked from here on, where it is left out
-abbrev pub NotesBlocked : Commits → Commits → ℕ → ℕ → Record → BTreeSet ℕ → BTreeSet ℕ → Type 0
-NotesBlocked there set log logs r old new = (a : ℕ) →
-    In new a ↔ (In old a ⊎ ((a % logs ≡ log) × ((j : Key) × Tells a j r × IsLeftOut there set j)))
+-- the actor is blocked from here on, where this one is left out and the state another than is held
+abbrev pub BlocksOwn : List State → Commits → Commits → Key → ℕ → State → BTreeMap ℕ State → BTreeSet ℕ → BTreeSet ℕ → Type 0
+BlocksOwn first there set k a s states old new = (b : ℕ) → In new b ↔ (In old b ⊎ ((a ≡ b) × IsLeftOut there set k × ¬ IsHeld first states a s))
+
+-- the same, of the one whose record this is
+abbrev pub NotesBlocked : List State → Commits → Commits → ℕ → ℕ → Record → BTreeMap ℕ State → BTreeSet ℕ → BTreeSet ℕ → Type 0
+NotesBlocked first there set log logs r states old new = (a : ℕ) →
+    In new a ↔ (In old a ⊎ ((a % logs ≡ log) × ((j : Key) × Tells a j r × IsLeftOut there set j × TellsAnother first states a r)))
+
+-- in the lists this one changed some actor, of the committed ones, ahead of that one
+abbrev pub IsAheadOf : List State → Commits → List (List Record) → Key → Key → Type 0
+IsAheadOf first there now j k = (a : ℕ) × IsAheadIn first there a j k (log_of now a)
 
 -- in the lists one that is left out stands ahead of this one
-abbrev pub RestsOnLeftOut : Commits → Commits → List (List Record) → Key → Type 0
-RestsOnLeftOut there set now k = (j : Key) × StandsAhead now j k × IsLeftOut there set j
+abbrev pub RestsOnLeftOut : List State → Commits → Commits → List (List Record) → Key → Type 0
+RestsOnLeftOut first there set now k = (j : Key) × IsAheadOf first there now j k × IsLeftOut there set j
 
 -- these are the new ones that rest on one that is left out
-abbrev pub AreLeaving : Commits → Commits → Commits → List (List Record) → List Key → Type 0
-AreLeaving there taken set now leaving = (k : Key) → Contains leaving k ↔ (IsNewcomer taken set k × RestsOnLeftOut there set now k)
+abbrev pub AreLeaving : List State → Commits → Commits → Commits → List (List Record) → List Key → Type 0
+AreLeaving first there taken set now leaving = (k : Key) → Contains leaving k ↔ (IsNewcomer taken set k × RestsOnLeftOut first there set now k)
 
 -- of these each new one has all that stand ahead of it and are committed
-abbrev pub HaveAllAhead : Commits → Commits → List (List Record) → List Key → Type 0
-HaveAllAhead there taken now members = (k j : Key) → Contains members k → ¬ IsInSet taken k → StandsAhead now j k → IsInSet there j → Contains members j
+abbrev pub HaveAllAhead : List State → Commits → Commits → List (List Record) → List Key → Type 0
+HaveAllAhead first there taken now members = (k j : Key) → Contains members k → ¬ IsInSet taken k → IsAheadOf first there now j k → IsInSet there j → Contains members j
 
 -- some were left out of the set, as long as they rested on others that were
-pub record Settles (there taken : Commits) (now : List (List Record)) (old new : Commits) : Type 0 where
+pub record Settles (first : List State) (there taken : Commits) (now : List (List Record)) (old new : Commits) : Type 0 where
   pub within : (k : Key) → IsInSet new k → IsInSet old k
   pub stay : (k : Key) → IsInSet taken k → IsInSet old k → IsInSet new k
-  pub kept : (members : List Key) → HaveAllAhead there taken now members → ((k : Key) → Contains members k → IsInSet old k) → (k : Key) → Contains members k → IsInSet new k
+  pub kept : (members : List Key) → HaveAllAhead first there taken now members → ((k : Key) → Contains members k → IsInSet old k) → (k : Key) → Contains members k → IsInSet new k
 
 -- and none of it rests on one that was
-abbrev pub IsSettled : Commits → Commits → List (List Record) → Commits → Type 0
-IsSettled there taken now set = (k : Key) → IsNewcomer taken set k → ¬ RestsOnLeftOut there set now k
+abbrev pub IsSettled : List State → Commits → Commits → List (List Record) → Commits → Type 0
+IsSettled first there taken now set = (k : Key) → IsNewcomer taken set k → ¬ RestsOnLeftOut first there set now k
 
 -- ---- lists with some of the commits
 

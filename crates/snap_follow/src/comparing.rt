@@ -262,7 +262,8 @@ fn are_same_states(a: &[State], b: &[State]) -> bool
     true
 }
 
-fn is_same_state(a: &State, b: &State) -> bool
+/// Whether two states are the same.
+pub(crate) fn is_same_state(a: &State, b: &State) -> bool
     ensures { IsTrue result ↔ (a.now ≡ b.now) }
 {
     a.0 == b.0

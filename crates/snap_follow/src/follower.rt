@@ -52,7 +52,7 @@ impl Follower {
 
     /// A round over these lists, one for each log: the records that stand in it now, in order. A checkpoint may stand in second place of
     /// the first list, behind a Genesis with as many states, and nowhere else. Whoever was a member stays one. Others become members
-    /// whose commits the round before read, with all that stand ahead of them on an actor and are committed, in so far as these
+    /// whose commits the round before read, with all that changed an actor ahead of them and are committed, in so far as these
     /// are members too. Where the round is refused the follower stays as it was.
     pub fn round(
         &mut self,

@@ -1,8 +1,9 @@
 //! A follower of logs that grow: it reads them in rounds, and takes a commit once the round before has read it, with all that stand ahead
-//! of it. Whom it takes, and which states these leave, stands in `specs/Followed.antt`; what a round is in `specs/Rounds.antt`, and why
-//! it is refused in `specs/Refusals.antt`.
+//! of it: those that changed an actor before it came there. Whom it takes, and which states these leave, stands in `specs/Followed.antt`;
+//! what a round is in `specs/Rounds.antt`, and why it is refused in `specs/Refusals.antt`.
 #![tactic(auto)]
 
+mod changing;
 mod choosing;
 mod commits;
 mod comparing;

@@ -52,7 +52,8 @@ pub(crate) fn find(
     let seen = commits_in(alloc, before)?;
     let whole = seen_whole(alloc, now.as_slice(), &seen)?;
     let taken = commits_of_members(alloc, members)?;
-    let set = settled(alloc, now.as_slice(), &taken, whole.as_slice(), seen)?;
+    let begun = begun_states(first);
+    let set = settled(alloc, now.as_slice(), begun, &taken, whole.as_slice(), seen)?;
     let states = states_left(alloc, now.as_slice(), first, &set)?;
     let members = members_of(whole, &set);
     Ok(Found { members, states })
@@ -111,20 +112,31 @@ fn seen_whole(
     }
 }
 
+/// The states with which the actors began, as far as they are known.
+fn begun_states(first: Option<&Sequence<State>>) -> &[State]
+    ensures { MatchOption first.entry (result.now ≡ []) (λ f. result.now ≡ f.now) }
+{
+    match first {
+        Some(first) => first.as_slice(),
+        None => &[],
+    }
+}
+
 /// Whom the round takes: of those whose commits the round before read, all but those that rest on somebody who is left out.
 fn settled(
     alloc: Global,
     now: &[Sequence<Record>],
+    first: &[State],
     taken: &Commits,
     whole: &[Kept],
     seen: Commits,
 ) -> Result<Commits, Memory>
     requires some { 0 < length now.now }
-    ensures { IfOk result (λ set. IsSettledFrom now.now taken.now seen set) }
+    ensures { IfOk result (λ set. IsSettledFrom now.now first.now taken.now seen set) }
 {
     let there = commits_in(alloc, now)?;
     let mut set = seen;
-    settle_in_order(alloc, now, &there, taken, whole, &mut set)?;
+    settle_in_order(alloc, now, first, &there, taken, whole, &mut set)?;
     Ok(set)
 }
 

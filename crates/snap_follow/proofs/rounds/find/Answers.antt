@@ -36,7 +36,7 @@ returns c =
     let set = c.in_ok-set.set in
     let whole = c.in_ok-whole.whole in
     let states = c.in_ok-states.states in
-    is_found (λ (f : Bor (List State)). f.now) c.args.before.now c.args.members.now c.args.lists.now now c.in_ok-taken.taken seen set c.in_ok-first.first whole (record { members = c.members_of-members.result; states = states })
+    is_found (λ (f : Bor (List State)). f.now) c.args.before.now c.args.members.now c.args.lists.now now c.in_ok-taken.taken seen set c.in_ok-first.first c.begun_states-begun.result.now whole (record { members = c.members_of-members.result; states = states })
     (record {
       some = omega (arith, c.requires.as_many, c.requires.some);
       as_many = c.requires.as_many;
@@ -47,9 +47,10 @@ returns c =
     })
     (record {
       begins = subst (λ (z : List (List Record)). IsFirst (λ (f : Bor (List State)). f.now) z c.in_ok-first.first) c.as_slice.ensures c.in_ok-first.ensures;
+      begun_is = c.begun_states-begun.ensures;
       whole_is = subst (λ (z : List (List Record)). AreWhollyCommitted (chosen_lists seen z) whole) c.as_slice-2.ensures c.in_ok-whole.ensures;
       is_taken = c.in_ok-taken.ensures;
-      settled = subst (λ (z : List (List Record)). IsSettledFrom z c.in_ok-taken.taken seen set) c.as_slice-3.ensures c.in_ok-set.ensures;
+      settled = subst (λ (z : List (List Record)). IsSettledFrom z c.begun_states-begun.result.now c.in_ok-taken.taken seen set) c.as_slice-3.ensures c.in_ok-set.ensures;
       states = subst (λ (z : List (List Record)). MatchOption c.in_ok-first.first (states ≡ None) (λ (f : Bor (List State)). LeavesStates set z f.now states)) c.as_slice-5.ensures c.in_ok-states.ensures;
       those = c.members_of-members.ensures;
     })

@@ -2,7 +2,7 @@ use Rattle.snap_follow.specs.Passes.{Settles, size}
 use Rattle.snap_follow.proofs.settling.settle.Given as goal
 
 abbrev pub invariant-pass : goal.invariant-pass
-invariant-pass l = Settles l.there l.taken l.now l.fn.set l.set
+invariant-pass l = Settles l.first l.there l.taken l.now l.fn.set l.set
 
 -- somebody is left out each time
 abbrev pub decreases-pass : goal.decreases-pass
