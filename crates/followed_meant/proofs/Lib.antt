@@ -1,0 +1,2 @@
+mod CommitsRead
+pub mod Meant
