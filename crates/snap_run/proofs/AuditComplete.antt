@@ -1,11 +1,12 @@
 -- Where nothing stands in the way of an audit, it says what the input is, or there was no memory.
-use Rattle.std.proofs.Common.{◌≡◌, ◌⊎◌, inl, inr, ℕ, ◌<◌, ◌≤◌, List, length, Option, IfSome, refl, subst, arith}
+use Rattle.std.proofs.Common.{◌≡◌, ◌⊎◌, inl, inr, ℕ, ◌<◌, List, length, Option, IfSome, refl, subst, arith}
 use Rattle.command_words.specs.CommandLaws.{OneCommand}
 use Rattle.snap_outside.specs.Causes.{Rose}
 use Rattle.snap_report.specs.declared.audit_faults.AuditFault.{AuditFault}
 use Rattle.snap_report.specs.declared.audit_faults.AuditFault.TheVariants as audit
 use Rattle.snap_report.specs.declared.statuses.Status.{Status}
 use Rattle.snap_report.specs.declared.statuses.Status.TheVariants as status
+use Rattle.snap_run.proofs.InputLaws.{known_input}
 use Rattle.snap_run.proofs.Outcomes.{run_not_audit, recover_not_audit, migrate_not_audit, gen_not_audit, bench_not_audit, audit_not_compact, audit_not_follow}
 use Rattle.snap_run.specs.Answers.{IsAnswer, ran, recovered, generated, measured, migrated, compacted, followed, audited, refused}
 use Rattle.snap_run.specs.Audits.{OfInput, IsAuditRefusal, audit_fault, audit_input, audit_memory, audit_read_fault, IsAuditAnswer, audit_done, audit_refused, audit_out_fault, IsAuditable}
@@ -51,7 +52,7 @@ same_fault (audit.Clause clause at) (audit.Clause other there) e = cc
 module _ (one : OneCommand) (u : Use) (input : List ℕ) (may : IsAuditable u input) where
   -- what is said of the input holds of this one
   of_this : (P : List ℕ → Type 0) → OfInput u.reading P → P input
-  of_this P of = (subst (λ (left : Option (List ℕ)). IfSome left (λ input. (length input ≤ 8388608) × P input)) may.known of.1).1
+  of_this P of = subst P (known_input u.reading input of.0 may.known of.1 of.2) of.4
 
   -- it is not too long, and the source does not fail
   refused_so : (s : Status) → IsAuditRefusal u.reading s → ((fault : AuditFault) × (IsFirstFault input (fault_meant fault) × (s ≡ status.Audit fault))) ⊎ (s ≡ status.Memory)

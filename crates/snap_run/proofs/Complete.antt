@@ -3,7 +3,7 @@ use Rattle.std.proofs.Common.{◌≡◌, ◌⊎◌, inl, inr, ℕ, List, Option,
 use Rattle.command_words.specs.CommandLaws.{OneCommand}
 use Rattle.command_words.specs.Words.{IsBench}
 use Rattle.run_work.specs.run_recovery.Schedules.{Schedule}
-use Rattle.run_work.specs.Runs.{Printing, reporting, summing, RunUse, IsAnswerOf, IsWorkAnswer, IsOfLogs}
+use Rattle.run_work.specs.Runs.{Printing, reporting, summing, RunUse, IsAnswerOf, IsOfLogs}
 use Rattle.run_work.specs.Writings.{Writing}
 use Rattle.snap_outside.specs.Causes.{Rose}
 use Rattle.run_work.specs.run_opening.snap_recover.declared.openings.Opening.{Opening}
@@ -50,7 +50,7 @@ module _ (one : OneCommand) (apart : FaultOrWork) (u : Use) (text : List ℕ) (w
   run_completed : (schedule : Schedule) (s : Status) → ¬ IsOfLogs s → IsRunAnswer u schedule s → (s ≡ status.Done) ⊎ (s ≡ status.Memory)
   run_completed schedule s not (inl a) = of_input s a.0
   run_completed schedule s not (inr a) =
-      let x = subst (λ (left : Option (List ℕ)). IfSome left (λ input. (v : Work) × IsWork input v × IsWorkAnswer (ran_of u v schedule) s)) t.known a.1 in ended reporting (ran_of u x.0 schedule) s not t.sink t.trace x.2
+      ended reporting (ran_of u a.3 schedule) s not t.sink t.trace a.5
 
   pub completed : (s : Status) → ¬ IsOfLogs s → IsAnswer u s → (s ≡ status.Done) ⊎ (s ≡ status.Memory)
   completed s not (ran n seed run a) = run_completed (schedule_asked n seed) s not a

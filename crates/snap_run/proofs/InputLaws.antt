@@ -35,22 +35,25 @@ fault_of_input (Some xs) (Some ys) bytes f moved whole h = elim (cases_lt 838860
 ]
 
 -- so much was read
-pub reads_enough : (r : Reading) (bytes : List ℕ) → Consumes r.left_before r.left_after bytes → (length bytes ≤ 8388608 → IsAtEnd r.left_after) → length bytes ≤ 8388609
-    → ReadsEnough r
-reads_enough r bytes moved whole most =
-    (bytes, moved, elim (cases_lt 8388608 (length bytes)) [ inr short ↦ inl (whole short) | inl long ↦ inr (omega arith) ])
+pub reads_enough : (r : Reading) (bytes : List ℕ) (f : WorkFault) → Consumes r.left_before r.left_after bytes → (length bytes ≤ 8388608 → IsAtEnd r.left_after) → length bytes ≤ 8388609
+    → IsFirstWorkFault bytes f → ReadsEnough r (λ read. IsFirstWorkFault read f)
+reads_enough r bytes f moved whole most fault =
+    (bytes, moved, elim (cases_lt 8388608 (length bytes)) [ inr short ↦ inl (whole short) | inl long ↦ inr (omega arith) ], fault)
 
--- what was read stands for a work, and so does the input, of which it is all
+-- what was read of a known input, to its end, is the input
+pub known_input : (r : Reading) (input bytes : List ℕ) → r.left_before ≡ Some input → Consumes r.left_before r.left_after bytes → IsAtEnd r.left_after → bytes ≡ input
+known_input r input bytes known moved end =
+    subst (λ (left : Option (List ℕ)). IfSome left (λ (all : List ℕ). bytes ≡ all)) known (Consumes-whole r.left_before r.left_after bytes (λ (all : List ℕ). bytes ≡ all) moved end refl)
+
+-- what was read stands for a work
 pub of_text : (r : Reading) (bytes : List ℕ) (w : Work) → IsWork bytes w → length bytes ≤ 8388608 → Consumes r.left_before r.left_after bytes → (length bytes ≤ 8388608 → IsAtEnd r.left_after)
     → OfText r (λ v. v ≡ w)
-of_text r bytes w work short moved whole =
-    (whole short, Consumes-whole r.left_before r.left_after bytes (λ input. (v : Work) × IsWork input v × (v ≡ w)) moved (whole short) (w, work, refl))
+of_text r bytes w work short moved whole = (bytes, moved, whole short, w, work, refl)
 
--- what was read is the input, all of it
+-- what was read is not too long
 pub of_input : (r : Reading) (bytes : List ℕ) (P : List ℕ → Type 0) → P bytes → length bytes ≤ 8388608 → Consumes r.left_before r.left_after bytes → (length bytes ≤ 8388608 → IsAtEnd r.left_after)
     → OfInput r P
-of_input r bytes P holds short moved whole =
-    (whole short, Consumes-whole r.left_before r.left_after bytes (λ input. (length input ≤ 8388608) × P input) moved (whole short) (short, holds))
+of_input r bytes P holds short moved whole = (bytes, moved, whole short, short, holds)
 
 -- so much was read, and so much the input has
 longer : (old new : Option (List ℕ)) (bytes : List ℕ) → 8388608 < length bytes → Consumes old new bytes → IfSome old (λ input. 8388608 < length input)

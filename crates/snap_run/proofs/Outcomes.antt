@@ -1,5 +1,5 @@
 -- What the top call promises, from what a run and the other command promise.
-use Rattle.std.proofs.Common.{◌≡◌, ◌<◌, ◌≤◌, inl, inr, ℕ, zero, suc, List, [], Option, None, Some, IfSome, refl, sym, ap, ◌∙◌, subst, arith}
+use Rattle.std.proofs.Common.{◌≡◌, ◌<◌, ◌≤◌, inl, inr, ℕ, zero, suc, List, [], Some, refl, sym, ap, ◌∙◌, subst, arith}
 use Rattle.std.specs.List.{AllZip}
 use Rattle.snap_report.specs.declared.statuses.Status.{Status}
 use Rattle.snap_report.specs.declared.statuses.Status.TheVariants as status
@@ -26,6 +26,7 @@ use Rattle.snap_run.specs.Followings.{IsFollowAnswer, follow_done, follow_refuse
 use Rattle.snap_run.specs.Compactions.{IsCompactAnswer, compact_done, compact_refused, compact_too_many, compact_memory, compact_log_fault, compact_out_fault}
 use Rattle.snap_run.specs.Migrations.{IsMigrateAnswer, migrate_done, migrate_refused, migrate_memory, migrate_log_fault, migrate_out_fault}
 use Rattle.snap_run.specs.Recoveries.{IsRecoverAnswer, recover_done, recover_refused, recover_memory, recover_log_fault, recover_out_fault}
+use Rattle.snap_run.proofs.InputLaws.{known_input}
 use Rattle.snap_run.specs.Answers.{OfText, schedule_asked, ran_of, ReadsNothing, IsInputAnswer, input_refused, input_memory, input_read_fault, TouchesNothing, TakesNoEvent, IsGenAnswer}
 use Rattle.snap_run.specs.Answers.{IsMeasured, ran, recovered, generated, measured, migrated, compacted, followed, audited, refused, GetsNoCall, IsUntroubled, MayBeMeasured}
 use Rattle.work_gen.specs.Generated.{generated_text}
@@ -177,11 +178,7 @@ abbrev pub OneWork : Type 0
 OneWork = (text : List ℕ) (v w : Work) → IsWork text v → IsWork text w → v ≡ w
 
 of_text_then : (r : Reading) (w : Work) (P : Work → Type 0) → OfText r (λ v. v ≡ w) → P w → OfText r P
-of_text_then r w P of p = (of.0, known r.left_before of.1)
-  where
-    known : (left : Option (List ℕ)) → IfSome left (λ text. (v : Work) × IsWork text v × (v ≡ w)) → IfSome left (λ text. (v : Work) × IsWork text v × P v)
-    known None h = tt
-    known (Some text) h = (h.0, h.1, subst P (sym h.2) p)
+of_text_then r w P of p = (of.0, of.1, of.2, of.3, of.4, subst P (sym of.5) p)
 
 pub run_outcome : OneCommand → (u : Use) (n seed : ℕ) (w : Work) (s : Status) → IsRunCommand u.words n seed → OfText u.reading (λ v. v ≡ w)
     → IsWorkAnswer (ran_of u w (schedule_asked n seed)) s → IsOutcome u s
@@ -202,7 +199,7 @@ by_crew (suc n) seed some = refl
 -- a text that is known stands for the work that is run
 same_work : OneWork → (r : Reading) (text : List ℕ) (v w : Work) → OfText r (λ x. x ≡ w) → r.left_before ≡ Some text → IsWork text v → v ≡ w
 same_work one r text v w of known work =
-    let x = subst (λ (left : Option (List ℕ)). IfSome left (λ input. (y : Work) × IsWork input y × (y ≡ w))) known of.1 in one text v x.0 work x.1 ∙ x.2
+    one text v of.3 work (subst (λ (read : List ℕ). IsWork read of.3) (known_input r text of.0 known of.1 of.2) of.4) ∙ of.5
 
 -- where nothing stands in the way no log ends it
 pub run_not_of_logs : OneWork → (u : Use) (w : Work) (s : Status)

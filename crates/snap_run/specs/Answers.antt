@@ -23,13 +23,14 @@ use Rattle.snap_run.specs.Migrations.{IsMigrateAnswer}
 use Rattle.snap_run.specs.Recoveries.{IsRecoverAnswer}
 use Rattle.snap_work.specs.declared.limits.TheConstants.{LONGEST_WORK}
 
--- The input was read to its end, or one byte more of it than an input may have.
-abbrev pub ReadsEnough : Reading → Type 0
-ReadsEnough r = (bytes : List ℕ) × Consumes r.left_before r.left_after bytes × (IsAtEnd r.left_after ⊎ (length bytes ≡ LONGEST_WORK + 1))
+-- The input was read to its end, or one byte more of it than an input may have; and P holds of what was read, whether or not the source
+-- tells what it had.
+abbrev pub ReadsEnough : Reading → (List ℕ → Type 0) → Type 0
+ReadsEnough r P = (bytes : List ℕ) × Consumes r.left_before r.left_after bytes × (IsAtEnd r.left_after ⊎ (length bytes ≡ LONGEST_WORK + 1)) × P bytes
 
--- The input was read to its end and stands for a work of which this holds.
+-- The input was read to its end, and what was read stands for a work of which this holds.
 abbrev pub OfText : Reading → (Work → Type 0) → Type 0
-OfText r P = IsAtEnd r.left_after × IfSome r.left_before (λ input. (w : Work) × IsWork input w × P w)
+OfText r P = (bytes : List ℕ) × Consumes r.left_before r.left_after bytes × IsAtEnd r.left_after × (w : Work) × IsWork bytes w × P w
 
 -- the schedule of a run with so many workers: where there are none it is that of the seed
 abbrev pub schedule_asked : ℕ → ℕ → Schedule
@@ -46,7 +47,8 @@ OfWork u schedule s = OfText u.reading (λ w. IsWorkAnswer (ran_of u w schedule)
 -- what reading and parsing may answer in place of a work
 pub data IsInputAnswer (r : Reading) : Status → Type 0 where
   -- the text is refused, and told with its first fault
-  input_refused : (line : ℕ) (cause : WorkCause) → ReadsEnough r → IfSome r.left_before (λ input. IsFirstWorkFault input (record { line = line; cause = cause }))
+  input_refused : (line : ℕ) (cause : WorkCause) → ReadsEnough r (λ bytes. IsFirstWorkFault bytes (record { line = line; cause = cause }))
+      → IfSome r.left_before (λ input. IsFirstWorkFault input (record { line = line; cause = cause }))
       → IsInputAnswer r (status.Input line cause)
   -- there was no memory for the text or for its work
   input_memory : IsInputAnswer r status.Memory

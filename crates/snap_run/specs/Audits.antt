@@ -19,9 +19,9 @@ use Rattle.trace_audit.specs.audit_words.Inputs.{IsInOrder, IsFirstFault}
 abbrev pub audit_ok : List ℕ
 audit_ok = codes "audit ok" ++ line_end
 
--- The input was read to its end, has no more bytes than an input may have, and P holds of it.
+-- The input was read to its end, what was read has no more bytes than an input may have, and P holds of it.
 abbrev pub OfInput : Reading → (List ℕ → Type 0) → Type 0
-OfInput r P = IsAtEnd r.left_after × IfSome r.left_before (λ input. (length input ≤ LONGEST_WORK) × P input)
+OfInput r P = (bytes : List ℕ) × Consumes r.left_before r.left_after bytes × IsAtEnd r.left_after × (length bytes ≤ LONGEST_WORK) × P bytes
 
 -- The input has more bytes than an input may have, and was read up to one byte more than that.
 abbrev pub IsTooLong : Reading → Type 0

@@ -1,6 +1,8 @@
-use Rattle.std.proofs.Common.{◌≡◌, ◌∙◌, length, sym, subst, rules}
+use Rattle.std.proofs.Common.{◌≡◌, ◌∙◌, true, length, sym, subst, rules, Result, Ok, Err, OnErr}
 use Rattle.std.proofs.KnownBytes.{Keeps-refl}
+use Rattle.std.proofs.lemmas.Bool.{true≢false}
 use Rattle.std.proofs.lemmas.List.{length-map}
+use Rattle.std.specs.Result.{is_err}
 use Rattle.log_compaction.specs.Compacted.{IsNoCompaction}
 use Rattle.log_compaction.specs.declared.refusals.CompactNo.{CompactNo}
 use Rattle.log_following.specs.log_opening.Devices.{devices_of}
@@ -27,11 +29,17 @@ returns-in-Err-TooMany-clause-answer g c =
     let after = devices_of g.D.LogDev.told g.D.LogDev.faults c.compact.new.devices.items in
     compact_too_many c.in-Err-TooMany.logs (subst (λ (no : CompactNo). IsNoCompaction before after no) c.in-Err-TooMany.field-0-is c.in-Err-TooMany.ensures.refused) (Keeps-refl _)
 
+-- what holds of a call that failed
+where_failed : {T E : Type 0} (r : Result T E) (P : Type 0) → is_err r ≡ true → OnErr r P → P
+where_failed (Ok x) P failed on = absurd (true≢false (sym failed))
+where_failed (Err e) P failed on = on
+
 pub returns-then-is_err-clause-answer : goal.returns-then-is_err-clause-answer
 returns-then-is_err-clause-answer g c =
     let out : Writing = writing_of g.O.Sink c.args.out.now c.write_all.new.out in
     let is = c.in-Ok.ensures.compacted in
-    compact_out_fault is.0 is.2 (subst (λ bytes. WritesFront out bytes) (c.as_bytes.ensures.value ∙ is.1) (search rules)) (search rules)
+    let front = where_failed c.write_all.result (WritesFront out c.as_bytes.result.now) (sym c.is_err.ensures.value ∙ c.if-is_err.true) c.write_all.ensures.front in
+    compact_out_fault is.0 is.2 (subst (λ bytes. WritesFront out bytes) (c.as_bytes.ensures.value ∙ is.1) front) (search rules)
 
 pub returns-clause-answer : goal.returns-clause-answer
 returns-clause-answer g c =

@@ -1,8 +1,8 @@
 use Rattle.std.proofs.Common.{refl, sym, subst}
 use Rattle.std.proofs.KnownBytes.{Keeps-refl}
 use Rattle.run_work.specs.run_recovery.Schedules.{Schedule}
-use Rattle.run_work.specs.Runs.{IsWorkAnswer}
-use Rattle.snap_run.proofs.Outcomes.{by_crew, input_not_of_logs, input_outcome, run_outcome, run_not_of_logs}
+use Rattle.run_work.specs.Runs.{IsWorkAnswer, reporting}
+use Rattle.snap_run.proofs.Outcomes.{by_crew, input_not_of_logs, input_outcome, run_calls, run_outcome, run_not_of_logs}
 use Rattle.snap_run.proofs.crews.crew_input.Goals as goal
 use Rattle.snap_run.specs.Answers.{ran_of}
 use Rattle.snap_run.specs.Uses.{Use, reading_of, use_of}
@@ -20,6 +20,9 @@ pub returns-in-Ok-clause-opens : goal.returns-in-Ok-clause-opens
 returns-in-Ok-clause-opens g c = λ words.
     let u : Use = use_of words (reading_of g.I.Source c.args.input.now c.read_work.new.input) c.args.call c.crew_work.result.call c.crew_work.result.kept.items in
     run_not_of_logs c.one_work.ensures u (work_of c.in-Ok.work) c.crew_work.result.status c.crew_work.ensures.opens c.in-Ok.ensures.answer
+
+pub returns-in-Ok-clause-untouched : goal.returns-in-Ok-clause-untouched
+returns-in-Ok-clause-untouched g c = λ no. absurd (run_calls reporting _ c.crew_work.result.status c.crew_work.ensures.answer no)
 
 pub returns-in-Ok-clause-input_once : goal.returns-in-Ok-clause-input_once
 returns-in-Ok-clause-input_once g c = surely _ _ _ _ (λ no is. cc is) c.in-Ok.ensures.once

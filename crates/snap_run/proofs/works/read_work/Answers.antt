@@ -22,8 +22,9 @@ returns-in-Err-Fault-parse_work-clause-answer g c =
     let is = ap Err c.in-Err-Fault-parse_work.field-0-is in
     let moved = subst (Consumes (g.I.Source.left c.args.input.now) (g.I.Source.left c.read_input.new.input)) (sym c.as_slice.ensures.value) c.in-Ok.ensures.moved in
     let whole = subst (λ l. length l ≤ 8388608 → IsAtEnd (g.I.Source.left c.read_input.new.input)) (sym c.as_slice.ensures.value) c.in-Ok.ensures.whole in
-    input_refused _ _ (reads_enough r c.as_slice.result.now moved whole (subst (λ l. length l ≤ 8388609) (sym c.as_slice.ensures.value) c.in-Ok.ensures.most))
-    (fault_of_input _ _ c.as_slice.result.now _ moved whole (c.in-Err-Fault-parse_work.ensures.fault _ is))
+    let fault = c.in-Err-Fault-parse_work.ensures.fault _ is in
+    input_refused _ _ (reads_enough r c.as_slice.result.now _ moved whole (subst (λ l. length l ≤ 8388609) (sym c.as_slice.ensures.value) c.in-Ok.ensures.most) fault)
+    (fault_of_input _ _ c.as_slice.result.now _ moved whole fault)
 
 pub returns-in-Err-Fault-clause-answer : goal.returns-in-Err-Fault-clause-answer
 returns-in-Err-Fault-clause-answer g c = input_read_fault (search rules)
