@@ -15,6 +15,9 @@ mod Premises
 mod ReportTexts
 mod ReadBack
 mod Language
+pub mod EventsFit
+pub mod MeantPapers
+mod PlacesApart
 mod RunsSeen
 mod Acts
 mod GivenUp

@@ -1,4 +1,5 @@
 pub mod Acts
+pub mod AsMeant
 pub mod Fits
 pub mod Half
 pub mod InOrder

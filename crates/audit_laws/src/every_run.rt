@@ -1,6 +1,7 @@
 //! Of every run: what its events tell of names, how its batches commit, and the clauses of papers in order that follow from the
 //! laws of the machine.
-ghost use Rattle.std.specs.Prelude.{List};
+ghost use Rattle.std.specs.Prelude.{List, map};
+ghost use Rattle.std.specs.List.{AllByRecursion};
 ghost use Rattle.protocol.specs.Events.{Event};
 ghost use Rattle.protocol.specs.Fixed.{Fixed, IsText};
 ghost use Rattle.protocol.specs.History.{history};
@@ -14,10 +15,13 @@ ghost use Rattle.audit_laws.specs.Fits.{VerdictsAreInRange};
 ghost use Rattle.audit_laws.specs.Half.{HasEvidence, HasPlaces, HasPlacesWhereTold, IsHalfAudited};
 ghost use Rattle.audit_laws.specs.Names.{NamesAreSeen};
 ghost use Rattle.audit_laws.specs.RunsTold.{RunsAreSeen};
+ghost use Rattle.run_effects.specs.core_events.declared.events.Event as code;
+ghost use Rattle.run_effects.specs.core_events.Meant.{event_meant};
+ghost use Rattle.trace_text.specs.Lines.{IsEvent};
 
 use protocol_laws::{
-    batches_settle_in_order, committed_are_those_with_places, frame, numbers_are_in_range,
-    transactions_are_in_one_place,
+    allowed_events_are_candidates, batches_settle_in_order, committed_are_those_with_places, frame,
+    numbers_are_in_range, transactions_are_in_one_place,
 };
 use protocol_theorems::{
     actors_lie_in_order, committed_transactions_are_in_order, numbers_are_the_ends_of_sets,
@@ -154,4 +158,12 @@ pub fn verdicts_are_in_range<C>()
     committed_transactions_are_in_order::<C>();
     verdicts_have_evidence::<C>();
     verdicts_tell_of_serial_runs::<C>();
+}
+
+/// The numbers of each event of a run fit the types that the event gives them.
+pub fn taken_events_are_in_range<C>()
+    ensures { (w : Fixed C) (es : List code.Event) → IsText w.text → IsRun w (map event_meant es) → AllByRecursion IsEvent es }
+{
+    sizes_hold::<C>();
+    allowed_events_are_candidates::<C>();
 }

@@ -13,10 +13,12 @@ mod programs;
 pub use every_run::{
     acts_are_seen, commits_stand, names_are_seen, places_are_seen, quiet_runs_are_audited,
     quiet_runs_are_half_audited, quiet_runs_have_evidence, quiet_runs_have_their_places,
-    runs_are_seen, told_places_are_audited, verdicts_are_in_range,
+    runs_are_seen, taken_events_are_in_range, told_places_are_audited, verdicts_are_in_range,
 };
-pub use inputs::quiet_runs_are_in_order;
-pub use papers::{audited_papers_are_serial, language_is_a_meaning, one_answer};
+pub use inputs::{first_events_are_in_range, quiet_runs_are_in_order};
+pub use papers::{
+    audited_papers_are_serial, language_is_a_meaning, one_answer, papers_tell_serial_runs,
+};
 pub use pieces::{
     chains_rise_to_each, chains_tell_order, reports_have_shape, reports_tell_meaning,
     reports_tell_places, runs_are_numbered,

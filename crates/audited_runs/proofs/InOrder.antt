@@ -1,10 +1,10 @@
 -- From the answer of a call to papers in order.
-use Rattle.std.proofs.Common.{◌≡◌, ℕ, suc, ◌+◌, ◌<◌, ◌≤◌, Bool, List, [], ◌∷◌, ◌++◌, length, take, Option, Some, IfSome, slice_index_or, refl, sym, ap, ◌∙◌, subst, inl, inr, arith}
+use Rattle.std.proofs.Common.{◌≡◌, ℕ, suc, ◌+◌, ◌<◌, Bool, List, [], ◌∷◌, ◌++◌, length, take, Option, Some, IfSome, slice_index_or, refl, sym, ap, ◌∙◌, subst, inl, inr, arith}
 use Rattle.std.proofs.lemmas.Bool.{cases_lt}
 use Rattle.std.proofs.lemmas.List.{append-nil, append_assoc}
 use Rattle.std.specs.Io.KnownBytes.{Appends}
 use Rattle.std.specs.List.{AllByRecursion}
-use Rattle.audit_laws.specs.InOrder.{QuietRunsAreInOrder}
+use Rattle.audit_laws.specs.InOrder.{FirstEventsAreInRange, QuietRunsAreInOrder}
 use Rattle.audit_words.specs.Inputs.{IsInOrder, input_of}
 use Rattle.audit_words.specs.Papers.{AreWhole, ended}
 use Rattle.command_words.specs.CommandLaws.{OneCommand}
@@ -32,6 +32,7 @@ use Rattle.run_work.specs.protocol.Runs.{IsRun}
 use Rattle.run_work.specs.run_effects.Lines.{report_text}
 use Rattle.snap_report.specs.declared.statuses.Status.{Status}
 use Rattle.snap_report.specs.declared.statuses.Status.TheVariants as status
+use Rattle.snap_run.proofs.InputLaws.{known_input}
 use Rattle.snap_run.proofs.Outcomes.{not_both, run_not_gen, run_not_bench, run_not_migrate, run_not_compact, run_not_follow, run_not_audit}
 use Rattle.snap_run.specs.Answers.{IsAnswer, ran, recovered, generated, measured, migrated, compacted, followed, audited, refused, IsInputAnswer, input_refused, input_memory, input_read_fault, IsRunAnswer, ran_of, schedule_asked}
 use Rattle.snap_run.specs.Uses.{Reading, Use}
@@ -39,7 +40,8 @@ use Rattle.snap_work.specs.Works.{Work}
 use Rattle.trace_text.specs.Lines.{IsEvent, event_line}
 use Rattle.trace_text.specs.Traces.{IsTrace, trace_of}
 use Rattle.work_text.specs.Reads.{IsWork}
-use Rattle.audited_runs.specs.FirstRuns.{HasTaken, HoldNothing, IsFirstRun}
+use Rattle.audited_runs.specs.FirstRuns.{AreInOrder, BeganOnNothing, HasTaken, HoldNothing, IsFirstRun, WorkRunsAreInOrder}
+use Rattle.audited_runs.proofs.EndedTexts.{ended_is_work}
 
 -- ---- the bytes
 
@@ -138,6 +140,32 @@ is_run : SeedsPickRuns → (w : Work) (schedule : Schedule) (o : Opening) (es : 
 is_run seeds w (seeded seed) o es failed before after run = (seeds w seed o es failed before after run).front
 is_run seeds w free o es failed before after run = run.front
 
+-- ---- a run of the work
+
+module _ (records : OneListOfRecords) (fronts : FrontsOfRecords) (seeds : SeedsPickRuns) (prints : PrintedTraces) (w : Work) (ranged : FirstEventsAreInRange w) (quiet : QuietRunsAreInOrder w)
+    (u : Use) (schedule : Schedule) (text trace report : List ℕ) (is_work : IsWork text w) (began : BeganOnNothing w u trace report) (a : IsWorkAnswer (ran_of u w schedule) status.Done)
+  where
+    -- with any text of whole lines that stands for the work
+    with_text : (full : List ℕ) → IsWork full w → AreWhole full → IsInOrder (input_of full trace report)
+    with_text full stands whole =
+        let es = meant u.kept in
+        let o : Opening = a.0.0 in
+        let fresh : o ≡ fresh_opening w.states = opens_fresh records fronts w schedule o es _ u.devices_before u.devices_after began.empty a.0.1 in
+        let taken : IsRun (machine_of w o) es = is_run seeds w schedule o es _ u.devices_before u.devices_after a.0.1 in
+        let printed : report ≡ report_text (machine_of w o) es = taken_is u.writing report (report_text (machine_of w o) es) began.printed a.0.3.1 in
+        let traced : trace ≡ trace_of u.kept = taken_is u.tracing trace (trace_of u.kept) began.traced a.1 in
+        let from_fresh : IsRun (machine_of w (fresh_opening w.states)) es = subst (λ (x : Opening). IsRun (machine_of w x) es) fresh taken in
+        let begun : IsInOrder (input_of full trace (report_text (machine_of w (fresh_opening w.states)) es)) =
+        quiet full trace u.kept stands whole (subst (λ (t : List ℕ). IsTrace t u.kept) (sym traced) (prints u.kept (ranged full u.kept stands from_fresh))) (subst (λ (t : List ℕ). AreWhole t) (sym traced) (whole_trace u.kept))
+        from_fresh (subst (λ (x : Opening). HasEnded w x es) fresh a.0.3.0.0) in
+        subst (λ (t : List ℕ). IsInOrder (input_of full trace t)) (sym (printed ∙ ap (λ (x : Opening). report_text (machine_of w x) es) fresh)) begun
+
+    pub run_in_order : AreInOrder text trace report
+    run_in_order = record {
+      of_whole_lines = λ whole. with_text text is_work whole;
+      with_line_feed = λ lacks room. with_text (ended text) (ended_is_work text w is_work lacks room) (inr (text, refl));
+    }
+
 -- ---- the answer
 
 -- reading and parsing never answer that all is done
@@ -146,29 +174,15 @@ not_done r s e (input_refused line cause enough fault) = cc
 not_done r s e input_memory = cc
 not_done r s e (input_read_fault rose) = cc
 
-module _ (one : OneCommand) (once : OneWork) (records : OneListOfRecords) (fronts : FrontsOfRecords) (seeds : SeedsPickRuns) (prints : PrintedTraces) (w : Work) (quiet : QuietRunsAreInOrder w)
-    (u : Use) (text trace report : List ℕ) (first : IsFirstRun w u text trace report)
+module _ (one : OneCommand) (once : OneWork) (w : Work) (runs : WorkRunsAreInOrder w) (u : Use) (text trace report : List ℕ) (first : IsFirstRun w u text trace report)
   where
-    of_answer : (schedule : Schedule) → IsWorkAnswer (ran_of u w schedule) status.Done → IsInOrder (input_of text trace report)
-    of_answer schedule a =
-        let es = meant u.kept in
-        let o : Opening = a.0.0 in
-        let fresh : o ≡ fresh_opening w.states = opens_fresh records fronts w schedule o es _ u.devices_before u.devices_after first.empty a.0.1 in
-        let taken : IsRun (machine_of w o) es = is_run seeds w schedule o es _ u.devices_before u.devices_after a.0.1 in
-        let printed : report ≡ report_text (machine_of w o) es = taken_is u.writing report (report_text (machine_of w o) es) first.printed a.0.3.1 in
-        let traced : trace ≡ trace_of u.kept = taken_is u.tracing trace (trace_of u.kept) first.traced a.1 in
-        let begun : IsInOrder (input_of text trace (report_text (machine_of w (fresh_opening w.states)) es)) =
-        quiet text trace u.kept first.is_work first.whole (subst (λ (t : List ℕ). IsTrace t u.kept) (sym traced) (prints u.kept first.events)) (subst (λ (t : List ℕ). AreWhole t) (sym traced) (whole_trace u.kept))
-        (subst (λ (x : Opening). IsRun (machine_of w x) es) fresh taken) (subst (λ (x : Opening). HasEnded w x es) fresh a.0.3.0.0) in
-        subst (λ (t : List ℕ). IsInOrder (input_of text trace t)) (sym (printed ∙ ap (λ (x : Opening). report_text (machine_of w x) es) fresh)) begun
-
-    of_run : (schedule : Schedule) → IsRunAnswer u schedule status.Done → IsInOrder (input_of text trace report)
+    of_run : (schedule : Schedule) → IsRunAnswer u schedule status.Done → AreInOrder text trace report
     of_run schedule (inl a) = absurd (not_done u.reading status.Done refl a.0)
     of_run schedule (inr a) =
-        let known = subst (λ (left : Option (List ℕ)). IfSome left (λ input. (v : Work) × IsWork input v × IsWorkAnswer (ran_of u v schedule) status.Done)) first.known a.1 in
-        of_answer schedule (subst (λ (v : Work). IsWorkAnswer (ran_of u v schedule) status.Done) (once text known.0 w known.1 first.is_work) known.2)
+        let work : IsWork text a.3 = subst (λ (read : List ℕ). IsWork read a.3) (known_input u.reading text a.0 first.known a.1 a.2) a.4 in
+        runs u schedule text trace report first.is_work first.began (subst (λ (v : Work). IsWorkAnswer (ran_of u v schedule) status.Done) (once text a.3 w work first.is_work) a.5)
 
-    pub in_order : IsAnswer u status.Done → IsInOrder (input_of text trace report)
+    pub in_order : IsAnswer u status.Done → AreInOrder text trace report
     in_order (ran n seed run a) = of_run (schedule_asked n seed) a
     in_order (recovered recover _ _ _ _) = absurd (not_both one u.words first.run.0 first.run.1 first.run.2 recover)
     in_order (generated count seed gen _ _ _) = absurd (run_not_gen one u.words first.run.0 first.run.1 count seed first.run.2 gen)

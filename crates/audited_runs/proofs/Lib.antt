@@ -1,1 +1,2 @@
+mod EndedTexts
 pub mod InOrder

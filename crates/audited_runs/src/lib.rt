@@ -1,7 +1,7 @@
 //! What `run` prints and traces on empty logs, where it ends with 0, is in order with its text: `audit` has no fault to tell of it.
-//! A public function, whose contract is the law.
+//! Public functions, whose contracts are the laws.
 #![tactic(auto)]
 
 mod runs;
 
-pub use runs::runs_are_in_order;
+pub use runs::{runs_are_in_order, work_runs_are_in_order};
