@@ -47,6 +47,10 @@ none_has : (lists : List (List Record)) (w : Who) → AllByRecursion (λ rs. rs 
 none_has lists (OfBatch k) h c = contains_none (key_of (OfBatch k)) (subst (λ rs. Contains (map key rs) (key_of (OfBatch k))) (nothing_at lists (k % length lists) h) c)
 none_has lists (OfAct t) h c = contains_none (key_of (OfAct t)) (subst (λ rs. Contains (map key rs) (key_of (OfAct t))) (nothing_at lists (t % length lists) h) c)
 
+-- of nobody a commit is in the lists of one that has read nothing
+pub none_found : (lists : List (List Record)) (w : Who) → AllByRecursion (λ rs. rs ≡ []) lists → HasCommit (plain_lists lists) (key_of w) → ⊥
+none_found lists w h c = none_has (plain_lists lists) w (plain_nothing lists h) c
+
 -- whose commit is in its lists, of that it was read
 pub was_read : {C : Type 0} (many : ℕ) (first : List State) (front : List Record) (xs : List (CutRun C)) (f : Following) (o : Option (Finding xs)) (w : Who) → 1 ≤ many → IsRunsFront many first front → Found many front xs f o
     → HasCommit (plain_lists f.before) (key_of w) → is_in many (runs_before xs (reading_of xs o)) w ≡ true

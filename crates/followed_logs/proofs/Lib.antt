@@ -4,6 +4,9 @@ mod Fronts
 mod Keys
 mod LaterReads
 mod Rounds
+mod Shown
+mod TwoCalls
 mod Unrefused
 mod Whole
 mod Written
+mod WrittenBack

@@ -29,19 +29,19 @@ use Rattle.followed_logs.proofs.Found.{Found, was_read}
 -- ---- what is known before a round
 
 -- these are the members, and the lists are those that were found
-record Knows {C : Type 0} (many : ℕ) (front : List Record) (xs : List (CutRun C)) (f : Following) (o : Option (Finding xs)) (taken : Who → Bool) : Type 0 where
+pub record Knows {C : Type 0} (many : ℕ) (front : List Record) (xs : List (CutRun C)) (f : Following) (o : Option (Finding xs)) (taken : Who → Bool) : Type 0 where
   held : (w : Who) → taken w ≡ true → Contains (taken_by f) (key_of w)
   others : (w : Who) → taken w ≡ false → ¬ Contains (taken_by f) (key_of w)
   lists : Found many front xs f o
 
-knows_nothing : {C : Type 0} (many : ℕ) (front : List Record) (xs : List (CutRun C)) (f : Following) → HasReadNothing f → Knows many front xs f None (λ y. false)
+pub knows_nothing : {C : Type 0} (many : ℕ) (front : List Record) (xs : List (CutRun C)) (f : Following) → HasReadNothing f → Knows many front xs f None (λ y. false)
 knows_nothing many front xs f n = record {
   held = λ w e. absurd (true≢false (sym e));
   others = λ w e h. contains_none (key_of w) (subst (λ ms. Contains (Rattle.std.specs.Prelude.map commit_of ms) (key_of w)) n.nobody h);
   lists = n.nothing;
 }
 
-knows_then : {C : Type 0} (many : ℕ) (front : List Record) (xs : List (CutRun C)) (y : FollowRound xs) → y.known.before ≡ lists_found many front xs y.found → Knows many front xs y.known (Some y.found) (is_taken (taken_by y.known))
+pub knows_then : {C : Type 0} (many : ℕ) (front : List Record) (xs : List (CutRun C)) (y : FollowRound xs) → y.known.before ≡ lists_found many front xs y.found → Knows many front xs y.known (Some y.found) (is_taken (taken_by y.known))
 knows_then many front xs y e = record {
   held = λ w i. taken_is (taken_by y.known) w i;
   others = λ w i. not_taken (taken_by y.known) w i;
@@ -58,7 +58,7 @@ rounds_of [] = []
 rounds_of (y ∷ ys) = round_of y ∷ rounds_of ys
 
 module _ {C : Type 0} (many : ℕ) (o : Opening) (front : List Record) (xs : List (CutRun C)) (g : AreOnLogs many o front xs) where
-  may_take : (f : Following) (before : Option (Finding xs)) (taken : Who → Bool) (y : FollowRound xs) → Knows many front xs f before taken
+  pub may_take : (f : Following) (before : Option (Finding xs)) (taken : Who → Bool) (y : FollowRound xs) → Knows many front xs f before taken
       → MayTake (taken_by f) (plain_lists f.before) (plain_lists (lists_found many front xs y.found)) (taken_by y.known)
       → follow.MayTake many (state_in o.states) taken (runs_before xs (reading_of xs before)) (runs_read xs y.found.reading) (is_taken (taken_by y.known))
   may_take f before taken y k m =
@@ -88,7 +88,7 @@ module _ {C : Type 0} (many : ℕ) (o : Opening) (front : List Record) (xs : Lis
   enumerated n [] = refl
   enumerated n (s ∷ ss) = ap suc (enumerated (n + 1) ss)
 
-  begun_genesis : (y : FollowRound xs) → y.found.is_begun ≡ true → geneses (plain_lists (lists_found many front xs y.found)) ≡ Genesis many o.states ∷ []
+  pub begun_genesis : (y : FollowRound xs) → y.found.is_begun ≡ true → geneses (plain_lists (lists_found many front xs y.found)) ≡ Genesis many o.states ∷ []
   begun_genesis y b =
       ap geneses (plain_found many o.states front xs y.found g.is_front)
       ∙ (grown_genesis 0 (plain_front many o.states y.found.is_begun) (runs_read xs y.found.reading)

@@ -210,7 +210,7 @@ first_is many first states begun logs g b =
     let same : Genesis (length (grown begun logs)) states ≡ Genesis head.0 first = head.1 in
     cc same
 
-genesis_tells : (first : List State) (a : ℕ) (k : Key) (r : Record) → IsGenesisOf first r → ¬ Tells a k r
+pub genesis_tells : (first : List State) (a : ℕ) (k : Key) (r : Record) → IsGenesisOf first r → ¬ Tells a k r
 genesis_tells first a k r h t = subst (Tells a k) h.1 t
 
 first_leaves : (many : ℕ) (first : List State) (begun : List (List Record)) (logs : ℕ → List LogRecord) (a : ℕ) → OnlyGenesis many first begun → Leaves (HasCommit (grown begun logs)) (IsFirstState (grown begun logs)) a (log_of begun a) (state_in first a)

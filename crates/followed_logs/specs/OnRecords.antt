@@ -13,9 +13,10 @@ use Rattle.txn_records.specs.declared.keys.Key.{Key}
 use Rattle.txn_records.specs.declared.keys.Key.TheVariants as keys
 use Rattle.log_set.specs.Told.{bid_of, tid_of}
 use Rattle.recovery_laws.specs.Grown.{grown}
-use Rattle.log_compact.specs.Sets.{point_in, without_point}
+use Rattle.log_compact.specs.Sets.{plain_lists, point_in, without_point}
 use Rattle.snap_follow.specs.declared.refusals.FollowNo.{FollowNo}
 use Rattle.snap_follow.specs.declared.refusals.FollowNo.TheVariants.{Memory}
+use Rattle.snap_follow.specs.Followed.{HasCommit}
 use Rattle.snap_follow.specs.Refusals.{IsNotFollowed}
 use Rattle.snap_follow.specs.Rounds.{Following, taken_by, IsRound}
 
@@ -113,6 +114,24 @@ pub record FollowStands {C : Type 0} (many : ℕ) (o : Opening) (xs : List (CutR
 abbrev pub AllFollowStand : {C : Type 0} (many : ℕ) (o : Opening) (xs : List (CutRun C)) → Option (Finding xs) → (Who → Bool) → List (FollowRound xs) → Type 0
 AllFollowStand many o xs before taken [] = ⊤
 AllFollowStand many o xs before taken (y ∷ ys) = (s : FollowStands many o xs before taken y) × AllFollowStand many o xs (Some y.found) s.members ys
+
+-- ---- what two calls owe
+
+-- A commit that was found before a call is taken by its second round, where this one finds Genesis.
+abbrev pub SeenIsShown : Type 0 → Type 0
+SeenIsShown C =
+    (many : ℕ) (o : Opening) (front : List Record) (xs : List (CutRun C)) (f : Following) (earlier : Finding xs) (x y : FollowRound xs)
+    → AreOnLogs many o front xs → HasReadNothing f → GoOnFollowing many front xs f (Some earlier) (x ∷ y ∷ []) → y.found.is_begun ≡ true
+    → (k : Key) → HasCommit (plain_lists (lists_found many front xs earlier)) k → Contains (taken_by y.known) k
+
+-- Of two calls, each reading of the second no earlier than any of the first, and the second round of the second finding Genesis: nothing
+-- that the first took is missing in the second.
+abbrev pub CallsKnowMore : Type 0 → Type 0
+CallsKnowMore C =
+    (many : ℕ) (o : Opening) (front : List Record) (xs : List (CutRun C)) (f g : Following) (ys : List (FollowRound xs)) (x y : FollowRound xs) (zs : List (FollowRound xs))
+    → AreOnLogs many o front xs → HasReadNothing f → HasReadNothing g → GoOnFollowing many front xs f None ys
+    → GoOnFollowing many front xs g (found_last xs None ys) (x ∷ y ∷ zs) → y.found.is_begun ≡ true
+    → (k : Key) → Contains (taken_by (known_then xs f ys)) k → Contains (taken_by (known_then xs g (x ∷ y ∷ zs))) k
 
 -- ---- laws
 

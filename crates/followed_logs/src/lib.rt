@@ -5,4 +5,4 @@
 
 mod laws;
 
-pub use laws::{followers_are_not_refused, followers_tell_serial_states};
+pub use laws::{followers_are_not_refused, followers_tell_serial_states, later_calls_know_more, what_was_seen_is_shown};
