@@ -3,7 +3,6 @@ use Rattle.std.specs.Prelude.{◌≡◌, refl, ℕ, zero, suc, ◌%◌, ◌⊎�
 use Rattle.std.specs.List.{AllByRecursion, filter}
 use Rattle.std.proofs.Common.{sym, ap, subst, inl, inr, ◌∙◌}
 use Rattle.std.proofs.lemmas.Bool.{true≢false, cases_Bool, false_from_ne_true}
-use Rattle.snap_base.specs.declared.transactions.State.{State}
 use Rattle.protocol.specs.Fixed.{Opening}
 use Rattle.protocol.specs.Facts.{state_in}
 use Rattle.protocol.specs.Parts.{Who, OfBatch, OfAct}
@@ -24,7 +23,7 @@ use Rattle.snap_recover.proofs.Lists.{contains_cases, contains_here, contains_th
 use Rattle.log_compact.specs.Sets.{plain_lists}
 use Rattle.snap_follow.specs.Followed.{HasCommit, StandsAhead, MayTake}
 use Rattle.snap_follow.specs.Rounds.{Following, taken_by, AreReadable, IsRound}
-use Rattle.followed_logs.specs.OnRecords.{key_of, AreOnLogs, Finding, lists_found, FollowRound, HasReadNothing, SeenIsShown}
+use Rattle.followed_logs.specs.OnRecords.{key_of, AreOnLogs, Finding, lists_found, FollowRound, HasReadNothing, FollowersShowWhatWasFound}
 use Rattle.followed_logs.proofs.Keys.{is_taken, taken_is, is_then_taken}
 use Rattle.followed_logs.proofs.Written.{in_commit, commit_in}
 use Rattle.followed_logs.proofs.WrittenBack.{written_ahead}
@@ -169,11 +168,11 @@ module _ {C : Type 0} (many : ℕ) (o : Opening) (front : List Record) (xs : Lis
         stay = λ k c. taken_key (taken_by x.known) (plain_lists x.known.before) m k c;
         seen = λ k c n. let p = seen_key k c n in subst (HasCommit (plain_lists x.known.before)) (sym p.same) (was_there p.who p.held (not_yet (taken_by x.known) p.who k p.same n));
         rest_on = λ k j c n a h.
-          let p = seen_key k c n in
-          let q = commit_who (plain_lists (lists_found many front xs y.found)) j h in
-          subst (Contains (as_keys (taken_by x.known) (plain_lists x.known.before) m)) (sym q.1) (has_key q.0
-          (t.rest_on p.who q.0 p.held (not_yet (taken_by x.known) p.who k p.same n) (ahead_machine j k q.0 p.who q.1 p.same a)
-          (found_commit y.found q.0 (subst (HasCommit (plain_lists (lists_found many front xs y.found))) q.1 h))));
+            let p = seen_key k c n in
+            let q = commit_who (plain_lists (lists_found many front xs y.found)) j h in
+            subst (Contains (as_keys (taken_by x.known) (plain_lists x.known.before) m)) (sym q.1) (has_key q.0
+            (t.rest_on p.who q.0 p.held (not_yet (taken_by x.known) p.who k p.same n) (ahead_machine j k q.0 p.who q.1 p.same a)
+            (found_commit y.found q.0 (subst (HasCommit (plain_lists (lists_found many front xs y.found))) q.1 h))));
       }
 
     takes_most : follow.TakesMost many (state_in o.states) (is_taken (taken_by x.known)) (runs_before xs (Some x.found.reading)) (runs_read xs y.found.reading) (is_taken (taken_by y.known))
@@ -190,7 +189,7 @@ module _ {C : Type 0} (many : ℕ) (o : Opening) (front : List Record) (xs : Lis
     greatest = λ m t w i. absurd (none_before many xs w (t.seen w i refl));
   }
 
-pub seen_is_shown : {C : Type 0} → SeenIsShownBehindRuns C → SeenIsShown C
+pub seen_is_shown : {C : Type 0} → SeenIsShownBehindRuns C → FollowersShowWhatWasFound C
 seen_is_shown law many o front xs f earlier x y g n h b k c =
     let w = commit_who (plain_lists (lists_found many front xs earlier)) k c in
     subst (Contains (taken_by y.known)) (sym w.1) (taken_is (taken_by y.known) w.0

@@ -15,7 +15,7 @@ use Rattle.snap_recover.proofs.Lists.{contains_none, contains_unmap}
 use Rattle.log_compact.specs.Sets.{plain_lists}
 use Rattle.snap_follow.specs.Followed.{HasCommit}
 use Rattle.snap_follow.specs.Rounds.{Following, taken_by}
-use Rattle.followed_logs.specs.OnRecords.{key_of, Finding, lists_found, IsLaterFinding, FollowRound, GoOnFollowing, known_then, found_last, SeenIsShown, CallsKnowMore}
+use Rattle.followed_logs.specs.OnRecords.{key_of, Finding, lists_found, IsLaterFinding, FollowRound, GoOnFollowing, known_then, found_last, FollowersShowWhatWasFound, FollowersKnowMoreLater}
 use Rattle.followed_logs.proofs.Keys.{is_taken, taken_is, not_taken}
 use Rattle.followed_logs.proofs.Shown.{commit_who}
 use Rattle.followed_logs.proofs.Found.{Found, none_found}
@@ -104,7 +104,7 @@ module _ {C : Type 0} (many : ℕ) (front : List Record) (xs : List (CutRun C)) 
   stays f o [] h k c = c
   stays f o (y ∷ ys) h k c = stays y.known (Some y.found) ys h.1 k (h.0.1.members.takes.may.stay k c)
 
-pub second_knows_more : {C : Type 0} → SeenIsShown C → CallsKnowMore C
+pub second_knows_more : {C : Type 0} → FollowersShowWhatWasFound C → FollowersKnowMoreLater C
 second_knows_more shown many o front xs f g ys x y zs on n m h u b k c =
     let w = was_found many front xs f None ys n.nothing (λ j i. absurd (contains_none j (subst (λ ms. Contains (map commit_of ms) j) n.nobody i))) h k c in
     stays many front xs y.known (Some y.found) zs u.1.1 k

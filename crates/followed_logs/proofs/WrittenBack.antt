@@ -25,7 +25,7 @@ use Rattle.recovery_laws.proofs.KnownLogs.{all_at}
 use Rattle.snap_recover.specs.Logs.{log_of, states_in, actors_in}
 use Rattle.snap_recover.specs.Opening.{AreBegunWith, IsInRange}
 use Rattle.snap_follow.specs.Followed.{HasCommit, Tells, TellsOf, IsLeftBy, IsAnother, ChangesAhead, IsFirstState, StandsAhead}
-use Rattle.snap_follow.proofs.Changes.{tells_one, one_told, no_split, left_more}
+use Rattle.snap_follow.proofs.Changes.{tells_one, no_split, left_more}
 use Rattle.followed_logs.specs.OnRecords.{key_of}
 use Rattle.followed_logs.proofs.Written.{IsGenesisOf, OnlyGenesis, log_is, only_log, in_commit, commit_in, genesis_tells}
 
@@ -139,8 +139,8 @@ module _ (C : Key → Type 0) (B : ℕ → State → Type 0) (counts : Who → B
           let same : x ≡ told r = cc q in
           let more : all_told rs ≡ f ++ own ∷ (middle ++ last ∷ behind) = cc q in
           subst (ChangedAhead counts s z y) (sym (o.first rs)) (inr (
-            rest (before ++ told r ∷ []) (if counts o.who then o.state else s) f (left_told a before s o.state (told r) o.who o.own o.tells l) more
-            (subst (λ b. IsAnother C B a b own) (ap (λ v. before ++ v ∷ f) same ∙ sym (join_assoc before (told r ∷ []) f)) m)
+          rest (before ++ told r ∷ []) (if counts o.who then o.state else s) f (left_told a before s o.state (told r) o.who o.own o.tells l) more
+          (subst (λ b. IsAnother C B a b own) (ap (λ v. before ++ v ∷ f) same ∙ sym (join_assoc before (told r ∷ []) f)) m)
           ))
 
 -- ---- behind the records in front

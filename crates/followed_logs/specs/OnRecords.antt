@@ -118,16 +118,16 @@ AllFollowStand many o xs before taken (y ∷ ys) = (s : FollowStands many o xs b
 -- ---- what two calls owe
 
 -- A commit that was found before a call is taken by its second round, where this one finds Genesis.
-abbrev pub SeenIsShown : Type 0 → Type 0
-SeenIsShown C =
+abbrev pub FollowersShowWhatWasFound : Type 0 → Type 0
+FollowersShowWhatWasFound C =
     (many : ℕ) (o : Opening) (front : List Record) (xs : List (CutRun C)) (f : Following) (earlier : Finding xs) (x y : FollowRound xs)
     → AreOnLogs many o front xs → HasReadNothing f → GoOnFollowing many front xs f (Some earlier) (x ∷ y ∷ []) → y.found.is_begun ≡ true
     → (k : Key) → HasCommit (plain_lists (lists_found many front xs earlier)) k → Contains (taken_by y.known) k
 
 -- Of two calls, each reading of the second no earlier than any of the first, and the second round of the second finding Genesis: nothing
 -- that the first took is missing in the second.
-abbrev pub CallsKnowMore : Type 0 → Type 0
-CallsKnowMore C =
+abbrev pub FollowersKnowMoreLater : Type 0 → Type 0
+FollowersKnowMoreLater C =
     (many : ℕ) (o : Opening) (front : List Record) (xs : List (CutRun C)) (f g : Following) (ys : List (FollowRound xs)) (x y : FollowRound xs) (zs : List (FollowRound xs))
     → AreOnLogs many o front xs → HasReadNothing f → HasReadNothing g → GoOnFollowing many front xs f None ys
     → GoOnFollowing many front xs g (found_last xs None ys) (x ∷ y ∷ zs) → y.found.is_begun ≡ true

@@ -1,8 +1,10 @@
 //! The laws. `C` is the type of controls.
 
-ghost use Rattle.followed_logs.specs.OnRecords.{CallsKnowMore, FollowersAreNotRefused, FollowersTellSerialStates, SeenIsShown};
+ghost use Rattle.followed_logs.specs.OnRecords.{FollowersAreNotRefused, FollowersKnowMoreLater, FollowersShowWhatWasFound, FollowersTellSerialStates};
 
-use followed_runs::{followers_go_on_behind_runs, records_are_read_once, what_was_seen_is_shown_behind_runs};
+use followed_runs::{
+    followers_go_on_behind_runs, records_are_read_once, what_was_seen_is_shown_behind_runs,
+};
 use recovery_laws::logs_recover_from_greater_numbers;
 use snap_follow::refused_for_memory_alone;
 use snap_recover::begun_logs_are_recovered;
@@ -27,16 +29,16 @@ pub fn followers_are_not_refused<C>()
 }
 
 /// A commit that was found before a call is taken by its second round, where this one finds Genesis.
-pub fn what_was_seen_is_shown<C>()
-    ensures { SeenIsShown C }
+pub fn followers_show_what_was_found<C>()
+    ensures { FollowersShowWhatWasFound C }
 {
     what_was_seen_is_shown_behind_runs::<C>();
 }
 
-/// And of two calls, where each reading of the second is no earlier than any of the first, whatever the first one took the second one
-/// takes too.
-pub fn later_calls_know_more<C>()
-    ensures { CallsKnowMore C }
+/// And of two calls, where each reading of the second is no earlier than any of the first, and its second round finds Genesis, whatever
+/// the first one took the second one takes too.
+pub fn followers_know_more_later<C>()
+    ensures { FollowersKnowMoreLater C }
 {
     what_was_seen_is_shown_behind_runs::<C>();
 }
